@@ -33,6 +33,7 @@ impl<'a, T: Drop> Collector<'a, T> {
     pub fn used(&self) -> usize
         ensures { λ r. ⌜ r ≡ now (self .entry) .used ⌝ }
     {
-        self.used
+        let count = self.used;
+        count
     }
 }
