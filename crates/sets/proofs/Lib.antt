@@ -1,0 +1,4 @@
+pub mod Bit
+pub mod Digits
+pub mod Sets
+pub mod Known

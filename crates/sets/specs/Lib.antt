@@ -1,0 +1,4 @@
+pub mod Members
+pub mod Masks
+pub mod Places
+pub mod Positions
