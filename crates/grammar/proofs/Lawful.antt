@@ -1,0 +1,22 @@
+-- What the definition accepts and refuses meets the law.
+use mathlib.Core.Path.{_≡_, sym, _∙_}
+use mathlib.Core.List.{List}
+use Prim.Native.Nat.{ℕ}
+use Rattle.items.specs.declared.Placed.{Placed}
+use Rattle.pattern.specs.declared.Code.{Code}
+use Rattle.refusal.specs.declared.Cause.{Cause}
+use Rattle.grammar.specs.Law.{Accepted, Refused}
+use Rattle.grammar.specs.Parse.{parse}
+use Rattle.grammar.specs.Parse.Outcome.{accepted, refused}
+use Rattle.grammar.proofs.Complete.{complete, one-list}
+use Rattle.grammar.proofs.First.{clash, first-met}
+use Rattle.grammar.proofs.Sound.{accepted-is}
+use Rattle.grammar.proofs.Treed.{tree-of}
+
+pub accepted-so : (xs : List Placed) (len : ℕ) (cs : List Code) → parse xs len ≡ accepted cs → Accepted xs cs
+accepted-so xs len cs e =
+    let p = accepted-is 32 len xs cs e in
+    record { pattern = p; only = λ n ds q. one-list n 32 xs ds cs q p; tree = tree-of 32 xs cs p }
+
+pub refused-so : (xs : List Placed) (len : ℕ) (k : Cause) (p : ℕ) → parse xs len ≡ refused k p → Refused xs len k p
+refused-so xs len k p e = record { none = λ cs q. clash k p cs (sym e ∙ complete len q); met = first-met xs len k p e }

@@ -1,0 +1,9 @@
+pub mod Complete
+pub mod First
+pub mod Lawful
+pub mod Loads
+pub mod Moves
+pub mod Sound
+pub mod Treed
+pub mod Turns
+pub mod Writes

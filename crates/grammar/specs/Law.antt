@@ -1,0 +1,31 @@
+-- The law of the pattern reader: what it accepts and what it refuses, in the grammar's words.
+use mathlib.Core.Path.{_≡_}
+use mathlib.Core.List.{List}
+use Prim.Native.Nat.{ℕ}
+use Rattle.std.specs.declared.result.Result.{Result}
+use Rattle.std.specs.declared.result.Result.the-variants.{Ok, Err}
+use Rattle.items.specs.declared.Placed.{Placed}
+use Rattle.pattern.specs.declared.Code.{Code}
+use Rattle.pattern.specs.Tree.{Tree}
+use Rattle.pattern.specs.Codes.{TreeOf, count}
+use Rattle.refusal.specs.declared.Cause.{Cause}
+use Rattle.refusal.specs.declared.Refusal.{Refusal}
+use Rattle.grammar.specs.Grammar.{Pattern, atoms}
+use Rattle.grammar.specs.Refusals.{FirstMet}
+
+-- the items are a pattern that nests at most 32 deep, and these are its codes
+pub record Accepted (xs : List Placed) (cs : List Code) : Type 0 where
+  pub pattern : Pattern 32 xs cs
+  -- however deep parentheses may nest, it has no other codes
+  pub only : (n : ℕ) (ds : List Code) → Pattern n xs ds → ds ≡ cs
+  -- the codes are those of a tree whose atoms have the numbers from 1 on, in their order, one for each atom of the text
+  pub tree : (t : Tree) × TreeOf cs t × (count t ≡ atoms xs)
+
+-- the items are no such pattern, and this is what is first met
+pub record Refused (xs : List Placed) (len : ℕ) (cause : Cause) (place : ℕ) : Type 0 where
+  pub none : (cs : List Code) → Pattern 32 xs cs → ⊥
+  pub met : FirstMet len xs cause place
+
+abbrev pub Understood : List Placed → ℕ → List Code → Result (Unit {0}) Refusal → Type 0
+Understood xs len cs (Ok u) = Accepted xs cs
+Understood xs len cs (Err e) = Refused xs len (e .cause) (e .place)
