@@ -1,0 +1,16 @@
+pub mod Answers
+pub mod Bit
+pub mod Find
+pub mod Lists
+pub mod Masks
+pub mod Numbers
+pub mod Places
+pub mod Reading
+pub mod Rest
+pub mod Seal
+pub mod Sets
+pub mod Tells
+pub mod Tests
+pub mod Whole
+pub mod Widths
+pub mod Words

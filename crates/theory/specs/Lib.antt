@@ -1,0 +1,11 @@
+pub mod Machine
+pub mod Masks
+pub mod Positions
+pub mod Reads
+pub mod Scans
+pub mod Seal
+pub mod Spans
+pub mod Steps
+pub mod Theorems
+pub mod Trials
+pub mod Words
