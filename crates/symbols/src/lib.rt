@@ -1,6 +1,9 @@
 // The symbols of a record, and the tests that atoms put to them.
 ghost use mathlib.Core.Path.{_≡_};
+ghost use Prim.Native.Nat.{ℕ};
+ghost use lib.Dec.{eqb};
 ghost use Rattle.symbols.specs.Tests.{passesByte, passesCode, codeOf};
+ghost use Rattle.symbols.specs.ByteSets.{noByte, withByte, withRange, others, Nothing, Adds, Inverts, between};
 
 // A set of bytes: byte b is bit b mod 8 of the b div 8-th of `bits`.
 #[derive(Clone, Copy)]
@@ -13,6 +16,41 @@ impl ByteTest {
         ensures { λ r. ⌜ r ≡ passesByte (now (self .entry)) byte ⌝ }
     {
         self.bits[byte as usize / 8] >> (byte % 8) & 1 == 1
+    }
+
+    // The test that no byte passes.
+    pub fn none() -> ByteTest
+        ensures is { λ r. ⌜ r ≡ noByte ⌝ }
+        ensures law { λ r. ⌜ Nothing r ⌝ }
+    {
+        ByteTest { bits: [0; 32] }
+    }
+
+    pub fn insert(&mut self, byte: u8)
+        ensures is { λ _. ⌜ now (self .exit) ≡ withByte (now (self .entry)) byte ⌝ }
+        ensures law { λ _. ⌜ Adds (λ x. eqb x byte) (now (self .entry)) (now (self .exit)) ⌝ }
+    {
+        self.bits[byte as usize / 8] |= 1 << (byte % 8);
+    }
+
+    // Both ends are inserted too; nothing is if `high` is below `low`.
+    pub fn insert_range(&mut self, low: u8, high: u8)
+        ensures is { λ _. ⌜ now (self .exit) ≡ withRange (now (self .entry)) low high ⌝ }
+        ensures law { λ _. ⌜ Adds (between low high) (now (self .entry)) (now (self .exit)) ⌝ }
+    {
+        for byte in low..=high {
+            self.insert(byte);
+        }
+    }
+
+    // Afterwards exactly the other bytes pass.
+    pub fn invert(&mut self)
+        ensures is { λ _. ⌜ now (self .exit) ≡ others (now (self .entry)) ⌝ }
+        ensures law { λ _. ⌜ Inverts (now (self .entry)) (now (self .exit)) ⌝ }
+    {
+        for i in 0..self.bits.len() {
+            self.bits[i] ^= 255;
+        }
     }
 }
 
