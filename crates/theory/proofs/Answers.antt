@@ -1,6 +1,6 @@
 -- Each pattern has one answer to a find and one to a list, found over its own machine.
 use mathlib.Core.Path.{_≡_, refl, ap, _∙_}
-use mathlib.Core.List.{List, []}
+use mathlib.Core.List.{List}
 use mathlib.Core.Bool.{Bool}
 use Prim.Native.Nat.{ℕ}
 use Rattle.std.specs.declared.option.Option.{Option}
@@ -13,7 +13,6 @@ use Rattle.theory.specs.declared.Span.{Span}
 use Rattle.theory.specs.Words.{Words}
 use Rattle.theory.specs.Positions.{positions, FromOne}
 use Rattle.theory.specs.Spans.{Finds, Lists}
-use Rattle.theory.specs.Machine.{Machine, Lawful}
 use Rattle.theory.specs.Scans.{Listing, find, list}
 use Rattle.theory.specs.Masks.{machine}
 use Rattle.theory.specs.Theorems.{One}

@@ -1,21 +1,17 @@
 -- Members of a set that is a number.
-use mathlib.Core.Path.{_≡_, refl, sym, ap, subst, _∙_}
+use mathlib.Core.Path.{_≡_, sym, _∙_}
 use mathlib.Core.Logic.{_⊎_, inl, inr, _↔_, _≢_}
-use mathlib.Core.Bool.{Bool, true, false, cond}
-use Prim.Native.Nat.{ℕ, zero, suc, _+_, _*_, _-_, _^_, _/_, _%_, _≤_, _<_, min, max}
+use Prim.Native.Nat.{ℕ, zero, suc, _+_, _-_, _^_, _/_, _%_, _≤_, _<_, max}
 use native.Mathlib.Omega.{arith}
 use native.Mathlib.Decide.{decLt, ℕ-discrete}
-use native.Mathlib.Nat.{div-eq-of-lt, zero-div, div-self, pow-suc, mul-mod-left, div-one, add-comm}
+use native.Mathlib.Nat.{div-eq-of-lt, zero-div, div-self, pow-suc, mul-mod-left, div-one, add-comm, lt-of-lt-of-le}
 use lib.Dec.{T, eqb, eqb→eq}
-use lib.Bits.{bitAnd, bitOr, or-shr, and-shr, or-step, and-step}
-use lib.Pow.{pow-lt, pow-pos, pow-add, shl-shr, shr-shr}
+use lib.Bits.{bitOr, or-shr, or-step}
+use lib.Pow.{pow-lt, pow-mono, pow-pos, pow-add, shl-shr, shr-shr}
 use Rattle.theory.specs.Masks.{bit, holds}
 
 bit-or : (a b p : ℕ) → bit (bitOr a b) p ≡ max (bit a p) (bit b p)
 bit-or a b p = rw or-shr (omega (arith, or-step (a / 2 ^ p) (b / 2 ^ p)))
-
-bit-and : (a b p : ℕ) → bit (bitAnd a b) p ≡ min (bit a p) (bit b p)
-bit-and a b p = rw and-shr (omega (arith, and-step (a / 2 ^ p) (b / 2 ^ p)))
 
 bit-zero : (p : ℕ) → bit 0 p ≡ 0
 bit-zero p = rw (zero-div (2 ^ p))
@@ -54,12 +50,6 @@ in-or a b p = (go, og)
     og (inl h) = in-one (bitOr a b) p (omega (arith, bit-or a b p, one-in a p h))
     og (inr h) = in-one (bitOr a b) p (omega (arith, bit-or a b p, one-in b p h))
 
-pub in-and : (a b p : ℕ) → (p ∈ bitAnd a b) ↔ (p ∈ a × p ∈ b)
-in-and a b p = (
-  λ h. let e = one-in (bitAnd a b) p h in (in-one a p (omega (arith, bit-and a b p)), in-one b p (omega (arith, bit-and a b p))),
-  λ h. in-one (bitAnd a b) p (omega (arith, bit-and a b p, one-in a p (h .0), one-in b p (h .1))),
-)
-
 pub in-zero : (p : ℕ) → p ∈ 0 → ⊥
 in-zero p h = omega (arith, one-in 0 p h, bit-zero p)
 
@@ -73,6 +63,19 @@ in-pow n p = (go, λ e. in-one (2 ^ n) p (rw e (bit-pow n)))
           | yes l ↦ omega (arith, bit-pow-below n p l)
           | no g ↦ elim (decLt n p) [ yes l ↦ omega (arith, bit-pow-above n p l) | no k ↦ omega arith ]
         ]
+
+-- a number below 2 ^ n has its members below n
+pub in-below : (n m p : ℕ) → m < 2 ^ n → p ∈ m → p < n
+in-below n m p h x =
+    elim (decLt p n) [
+      | yes l ↦ l
+      | no g ↦
+          let above : n ≤ p = omega arith in
+          let le : m < 2 ^ p = lt-of-lt-of-le h (pow-mono above) in
+          let z : m / 2 ^ p ≡ 0 = div-eq-of-lt le in
+          let e : bit m p ≡ 1 = one-in m p x in
+          absurd (omega (arith, z, e))
+    ]
 
 below-pow : (m : ℕ) → m < 2 ^ m
 below-pow zero = omega arith
@@ -124,8 +127,3 @@ same-members a b e = same-mask a b go
           | yes x ↦ x ∙ sym (one-in b p (e p .0 (in-one a p x)))
           | no n ↦ elim (ℕ-discrete (bit b p) 1) [ yes y ↦ absurd (n (one-in a p (e p .1 (in-one b p y)))) | no m ↦ omega arith ]
         ]
-
-pub or-assoc : (a b c : ℕ) → bitOr (bitOr a b) c ≡ bitOr a (bitOr b c)
-or-assoc a b c =
-    same-mask (bitOr (bitOr a b) c) (bitOr a (bitOr b c))
-    (λ p. omega (arith, bit-or (bitOr a b) c p, bit-or a b p, bit-or a (bitOr b c) p, bit-or b c p))

@@ -1,21 +1,21 @@
 -- Find by two scans answers the leftmost, then longest, match; and there is one such answer.
 use mathlib.Core.Path.{_≡_, refl, sym, ap, subst, _∙_}
 use mathlib.Core.List.{List, [], _∷_}
-use mathlib.Core.Logic.{_⊎_, inl, inr, _↔_}
+use mathlib.Core.Logic.{_⊎_, inl, inr}
 use mathlib.Core.Bool.{Bool, true, false, cond}
-use Prim.Native.Nat.{ℕ, zero, suc, _+_, _-_, _≤_, _<_}
+use Prim.Native.Nat.{ℕ, zero, suc, _+_, _-_, _≤_}
 use native.Mathlib.Omega.{arith}
 use native.Mathlib.Nat.{le-of-suc-le-suc, not-suc-le-zero}
 use lib.Dec.{T}
-use lib.ListN.{length, take, drop, length-drop}
+use lib.ListN.{take, drop, length-drop}
 use lib.Seq.{drop-drop, drop-nil}
 use Rattle.std.specs.declared.option.Option.{Option}
 use Rattle.std.specs.declared.option.Option.the-variants.{Some, None}
 use Rattle.theory.specs.declared.Span.{Span}
 use Rattle.theory.specs.Positions.{Positions}
 use Rattle.theory.specs.Steps.{Tell}
-use Rattle.theory.specs.Spans.{stretch, Match, LeftmostLongest, Finds}
-use Rattle.theory.specs.Machine.{Machine, Has, Lawful}
+use Rattle.theory.specs.Spans.{Match, Finds}
+use Rattle.theory.specs.Machine.{Machine, Lawful}
 use Rattle.theory.specs.Scans.{reach, backs, start, far, from-start, find}
 use Rattle.theory.proofs.Sets.{Fits, dead, ahead-says, back-says}
 

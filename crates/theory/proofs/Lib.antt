@@ -3,6 +3,7 @@ pub mod Bit
 pub mod Find
 pub mod Lists
 pub mod Masks
+pub mod Members
 pub mod Numbers
 pub mod Places
 pub mod Reading
@@ -13,4 +14,5 @@ pub mod Tells
 pub mod Tests
 pub mod Whole
 pub mod Widths
+pub mod Wordless
 pub mod Words

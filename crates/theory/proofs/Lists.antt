@@ -1,16 +1,15 @@
 -- The list by scans is the list of the relation, which has one answer.
-use mathlib.Core.Path.{_≡_, refl, sym, ap, _∙_, subst}
+use mathlib.Core.Path.{_≡_, refl, ap, subst}
 use mathlib.Core.List.{List, [], _∷_}
 use mathlib.Core.Bool.{Bool}
-use Prim.Native.Nat.{ℕ, zero, suc, _≤_}
+use Prim.Native.Nat.{ℕ, zero, suc}
 use native.Mathlib.Omega.{arith}
-use lib.ListN.{length}
 use Rattle.std.specs.declared.option.Option.{Option}
 use Rattle.std.specs.declared.option.Option.the-variants.{Some, None}
 use Rattle.theory.specs.declared.Span.{Span}
 use Rattle.theory.specs.Positions.{Positions}
 use Rattle.theory.specs.Steps.{Tell}
-use Rattle.theory.specs.Spans.{Finds, Lists, end-of}
+use Rattle.theory.specs.Spans.{Finds, Lists}
 use Rattle.theory.specs.Spans.Lists.{done, full, next}
 use Rattle.theory.specs.Machine.{Machine, Lawful}
 use Rattle.theory.specs.Scans.{find, Listing, ended, wrote, list}

@@ -1,21 +1,20 @@
 -- Sets that are numbers make a lawful machine, the same at any width that suffices.
-use mathlib.Core.Path.{_≡_, refl, sym, ap, subst, _∙_, fun-ext}
-use mathlib.Core.Logic.{_⊎_, inl, inr, _↔_, Iff·trans, Iff·symm}
+use mathlib.Core.Path.{_≡_, refl, sym, subst}
+use mathlib.Core.Logic.{_⊎_, inl, inr, _↔_}
 use mathlib.Core.Bool.{Bool, true, false, cond, _&&_, _||_}
-use Prim.Native.Nat.{ℕ, zero, suc, _+_, _^_, _≤_, _<_}
+use Prim.Native.Nat.{ℕ, zero, suc, _^_, _<_}
 use native.Mathlib.Omega.{arith}
 use native.Mathlib.Decide.{decLt}
 use lib.Dec.{T, eqb}
-use lib.Bits.{bitOr}
 use Rattle.std.specs.declared.option.Option.{Option}
 use Rattle.std.specs.declared.option.Option.the-variants.{Some, None}
 use Rattle.pattern.specs.Tree.{Tree}
 use Rattle.theory.specs.Positions.{Positions, positions, FromOne, atoms}
-use Rattle.theory.specs.Steps.{Begin, Ahead, Back, Meets}
-use Rattle.theory.specs.Machine.{Machine, Has, Lawful, Extensional}
-use Rattle.theory.specs.Masks.{holds, those, some, masks, Within, machine}
+use Rattle.theory.specs.Steps.{Ahead, Back, Meets}
+use Rattle.theory.specs.Machine.{Lawful}
+use Rattle.theory.specs.Masks.{holds, those, some, ahead-set, back-set, common, masks, Within, machine}
 use Rattle.theory.proofs.Tests.{or-left, or-right, or-cases, and-is, or-is, eq-is, self-is, same-test}
-use Rattle.theory.proofs.Bit.{_∈_, in-or, in-zero, in-pow, empty-is, same-members}
+use Rattle.theory.proofs.Bit.{_∈_, in-or, in-zero, in-pow, in-below, empty-is, same-members}
 use Rattle.theory.proofs.Numbers.{range, first-in, last-in, follow-in}
 use Rattle.theory.proofs.Places.{first-is, last-is, follow-is}
 
@@ -59,13 +58,35 @@ some-is (suc k) f = (
       ],
 )
 
--- a number below 2 ^ n is the set of its members
-pub is-those : (n S : ℕ) (f : ℕ → Bool) → ((p : ℕ) → (p ∈ S) ↔ ((p < n) × T (f p))) → S ≡ those n f
-is-those n S f e = same-members S (those n f) (λ p. Iff·trans (e p) (Iff·symm (those-is n f p)))
+-- a set made from members has them, and a number below 2 ^ n is the set of its members
+pub those-holds : (n : ℕ) (f : ℕ → Bool) (p : ℕ) → p < n → holds (those n f) p ≡ f p
+those-holds n f p h = same-test (holds (those n f) p) (f p) (λ x. those-is n f p .0 x .1, λ x. those-is n f p .1 (h, x))
+
+pub number-those : (n S : ℕ) (f : ℕ → Bool) → S < 2 ^ n → ((p : ℕ) → p < n → holds S p ≡ f p) → S ≡ those n f
+number-those n S f h e =
+    same-members S (those n f) (λ p. (
+      λ x. let l = in-below n S p h x in those-is n f p .1 (l, subst T (e p l) x),
+      λ x. let y = those-is n f p .0 x in subst T (sym (e p (y .0))) (y .1),
+    ))
+
+-- only members below n count
+pub those-same : (n : ℕ) (f g : ℕ → Bool) → ((p : ℕ) → p < n → f p ≡ g p) → those n f ≡ those n g
+those-same n f g e =
+    same-members (those n f) (those n g) (λ p. (
+      λ x. let y = those-is n f p .0 x in those-is n g p .1 (y .0, subst T (e p (y .0)) (y .1)),
+      λ x. let y = those-is n g p .0 x in those-is n f p .1 (y .0, subst T (sym (e p (y .0))) (y .1)),
+    ))
+
+pub some-same : (n : ℕ) (f g : ℕ → Bool) → ((p : ℕ) → p < n → f p ≡ g p) → some n f ≡ some n g
+some-same n f g e =
+    same-test (some n f) (some n g) (
+      λ x. let y = some-is n f .0 x in some-is n g .1 (y .0, y .1, subst T (e (y .0) (y .1)) (y .2)),
+      λ x. let y = some-is n g .0 x in some-is n f .1 (y .0, y .1, subst T (sym (e (y .0) (y .1))) (y .2)),
+    )
 
 module _ {Sym : Type 0} (n : ℕ) (passes : ℕ → Sym → Bool) (P : Positions) (within : Within n P) where
   -- some member of S that f relates, looked for below n
-  among : (S : ℕ) (f : ℕ → Bool) → ((p : ℕ) → T (f p) → p < n) → T (some n (λ p. holds S p && f p)) ↔ Meets (λ p. p ∈ S) f
+  among : (S : ℕ) (f : ℕ → Bool) → ((p : ℕ) → T (f p) → p < n) → T (common n (holds S) f) ↔ Meets (λ p. p ∈ S) f
   among S f low = (
     λ h. let x = some-is n (λ p. holds S p && f p) .0 h in let y = and-is (holds S (x .0)) (f (x .0)) (self-is (holds S (x .0))) (self-is (f (x .0))) .0 (x .2) in (x .0, y .0, y .1),
     λ h. some-is n (λ p. holds S p && f p) .1 (h .0, low (h .0) (h .2), and-is (holds S (h .0)) (f (h .0)) (self-is (holds S (h .0))) (self-is (f (h .0))) .1 (h .1, h .2)),
@@ -89,27 +110,27 @@ module _ {Sym : Type 0} (n : ℕ) (passes : ℕ → Sym → Bool) (P : Positions
       (and-is (P .last p) (holds S 0) (self-is (P .last p)) (self-is (holds S 0)))
       (among S (P .follow p) (λ q h. within .follow p q h .1))
 
-  ahead-is : (S : ℕ) (a : Sym) (q : ℕ) → (q ∈ those n (λ q. passes q a && after S q)) ↔ Ahead passes P (λ p. p ∈ S) a q
+  ahead-is : (S : ℕ) (a : Sym) (q : ℕ) → (q ∈ those n (ahead-set n passes P (holds S) a)) ↔ Ahead passes P (λ p. p ∈ S) a q
   ahead-is S a q = (go, og)
     where
       both : T (passes q a && after S q) ↔ (T (passes q a) × ((0 ∈ S × T (P .first q)) ⊎ Meets (λ p. p ∈ S) (λ p. P .follow p q)))
       both = and-is (passes q a) (after S q) (self-is (passes q a)) (after-is S q)
 
-      go : q ∈ those n (λ q. passes q a && after S q) → Ahead passes P (λ p. p ∈ S) a q
+      go : q ∈ those n (ahead-set n passes P (holds S) a) → Ahead passes P (λ p. p ∈ S) a q
       go h =
-          let x = both .0 (those-is n (λ q. passes q a && after S q) q .0 h .1) in
+          let x = both .0 (those-is n (ahead-set n passes P (holds S) a) q .0 h .1) in
           (x .0, elim (x .1) [ inl y ↦ (0, y .0, inl (refl, y .1)) | inr y ↦ (y .0, y .1, inr (y .2)) ])
 
-      og : Ahead passes P (λ p. p ∈ S) a q → q ∈ those n (λ q. passes q a && after S q)
+      og : Ahead passes P (λ p. p ∈ S) a q → q ∈ those n (ahead-set n passes P (holds S) a)
       og (x, (p, s, inl (e, f))) =
-          those-is n (λ q. passes q a && after S q) q .1 (within .first q f, both .1 (x, inl (subst (λ k. k ∈ S) e s, f)))
+          those-is n (ahead-set n passes P (holds S) a) q .1 (within .first q f, both .1 (x, inl (subst (λ k. k ∈ S) e s, f)))
       og (x, (p, s, inr f)) =
-          those-is n (λ q. passes q a && after S q) q .1 (within .follow p q f .1, both .1 (x, inr (p, s, f)))
+          those-is n (ahead-set n passes P (holds S) a) q .1 (within .follow p q f .1, both .1 (x, inr (p, s, f)))
 
-  back-is : (S : ℕ) (a : Sym) (p : ℕ) → (p ∈ those n (λ p. eqb p 0 || passes p a && before S p)) ↔ Back passes P (λ q. q ∈ S) a p
+  back-is : (S : ℕ) (a : Sym) (p : ℕ) → (p ∈ those n (back-set n passes P (holds S) a)) ↔ Back passes P (λ q. q ∈ S) a p
   back-is S a p = (
-    λ h. either .0 (those-is n (λ p. eqb p 0 || passes p a && before S p) p .0 h .1),
-    λ h. those-is n (λ p. eqb p 0 || passes p a && before S p) p .1 (low h, either .1 h),
+    λ h. either .0 (those-is n (back-set n passes P (holds S) a) p .0 h .1),
+    λ h. those-is n (back-set n passes P (holds S) a) p .1 (low h, either .1 h),
   )
     where
       either : T (eqb p 0 || passes p a && before S p) ↔ Back passes P (λ q. q ∈ S) a p

@@ -1,9 +1,9 @@
 -- The positions of a tree as facts, to go by cases on.
 use mathlib.Core.Path.{_≡_}
-use mathlib.Core.Logic.{_⊎_, inl, inr, _↔_}
-use mathlib.Core.Bool.{Bool, true, false, _&&_, _||_}
+use mathlib.Core.Logic.{_⊎_, _↔_}
+use mathlib.Core.Bool.{_&&_, _||_}
 use Prim.Native.Nat.{ℕ}
-use lib.Dec.{T, eqb}
+use lib.Dec.{T}
 use Rattle.pattern.specs.Tree.{Tree}
 use Rattle.pattern.specs.Tree.Tree.{atom, join, choice, star, plus, maybe}
 use Rattle.theory.specs.Positions.{nullable, first, last, follow}

@@ -2,7 +2,7 @@
 use mathlib.Core.Path.{_≡_, refl, sym, ap, subst, _∙_}
 use mathlib.Core.List.{List, [], _∷_, _++_, map, reverse, reverse-cons, append-nil}
 use mathlib.Core.Logic.{_⊎_, inl, inr}
-use mathlib.Core.Bool.{Bool, true, false, cond}
+use mathlib.Core.Bool.{true, false, cond}
 use Prim.Native.Nat.{ℕ, zero, suc, _+_, _-_, _*_, _≤_, _<_}
 use native.Mathlib.Omega.{arith}
 use lib.Dec.{T}
@@ -14,8 +14,8 @@ use Rattle.theory.specs.declared.Direction.the-variants as way
 use Rattle.theory.specs.declared.Span.{Span}
 use Rattle.theory.specs.Machine.{Machine}
 use Rattle.theory.specs.Scans.{reach, backs, start, far, from-start, find}
-use Rattle.theory.specs.Reads.{Read, back-reads, ahead-reads, start-reads, find-reads, list-reads, whole-reads}
-use Rattle.theory.specs.Theorems.{Reads-ahead, Reading}
+use Rattle.theory.specs.Reads.{Read, back-reads, ahead-reads, start-reads, find-reads, list-reads}
+use Rattle.theory.specs.Theorems.{Reading}
 
 module _ {Sym Set : Type 0} (m : Machine Sym Set) where
   abbrev symbols : List (Read Sym Set) → List Sym

@@ -1,6 +1,6 @@
 -- What is left of a word behind a position. Glushkov's theorem is three laws of it, each by induction on the tree.
-use mathlib.Core.Path.{_≡_, refl, sym, ap, subst, _∙_}
-use mathlib.Core.List.{List, [], _∷_, _++_}
+use mathlib.Core.Path.{_≡_, refl, ap, subst}
+use mathlib.Core.List.{List, [], _∷_}
 use mathlib.Core.Logic.{_⊎_, inl, inr}
 use mathlib.Core.Bool.{Bool}
 use Prim.Native.Nat.{ℕ}
@@ -8,8 +8,8 @@ use lib.Dec.{T}
 use Rattle.pattern.specs.Tree.{Tree}
 use Rattle.pattern.specs.Tree.Tree.{atom, join, choice, star, plus, maybe}
 use Rattle.theory.specs.Words.{Many, Then, Word}
-use Rattle.theory.specs.Words.Many.{none, more}
-use Rattle.theory.proofs.Numbers.{In, Distinct, first-in, last-in, follow-in}
+use Rattle.theory.specs.Words.Many.{none}
+use Rattle.theory.proofs.Numbers.{In, Distinct, first-in, follow-in}
 use Rattle.theory.proofs.Places.{First, Last, Follow}
 use Rattle.theory.proofs.Words.{cons≢nil, then-nil, then-cons, cons-then, then-map, many-cons, cons-many, null-word, word-null}
 

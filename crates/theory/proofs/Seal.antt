@@ -3,14 +3,12 @@ use mathlib.Core.Path.{_≡_, refl, sym, ap, _∙_, fun-ext}
 use mathlib.Core.List.{List, [], _∷_}
 use mathlib.Core.Bool.{Bool, false, _&&_, _||_, or-assoc, or-false}
 use Prim.Native.Nat.{ℕ, suc}
-use Rattle.std.specs.declared.option.Option.{Option}
-use Rattle.std.specs.declared.option.Option.the-variants.{Some, None}
 use Rattle.pattern.specs.Tree.{Tree}
 use Rattle.pattern.specs.Tree.Tree.{atom, join, choice, star, plus, maybe}
 use Rattle.pattern.specs.Codes.{build, tree}
 use Rattle.pattern.specs.declared.Code.{Code}
 use Rattle.pattern.specs.declared.Code.the-variants.{Atom, Join, Choice, Star, Plus, Maybe}
-use Rattle.theory.specs.Positions.{Positions, positions, nullable, first, last, follow}
+use Rattle.theory.specs.Positions.{positions, nullable, first, last, follow}
 use Rattle.theory.specs.Seal.{Part, link, seal, or-none, sealed}
 
 abbrev pub partOf : Tree → Part

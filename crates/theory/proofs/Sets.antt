@@ -1,7 +1,7 @@
 -- What the sets of a lawful machine say of words.
-use mathlib.Core.Path.{_≡_, refl, sym, ap, subst, _∙_}
-use mathlib.Core.List.{List, [], _∷_, _++_}
-use mathlib.Core.Logic.{_⊎_, inl, inr, _↔_}
+use mathlib.Core.Path.{_≡_, sym, ap, _∙_}
+use mathlib.Core.List.{List, [], _∷_}
+use mathlib.Core.Logic.{inl, inr, _↔_}
 use mathlib.Core.Bool.{Bool}
 use Prim.Native.Nat.{ℕ, zero, suc, _+_, _≤_, _<_}
 use native.Mathlib.Omega.{arith}
@@ -11,10 +11,9 @@ use lib.ListN.{length, take, drop, take-append-drop, length-append}
 use lib.Seq.{take-append-seam}
 use Rattle.theory.specs.Words.{Begins}
 use Rattle.theory.specs.Positions.{Positions}
-use Rattle.theory.specs.Steps.{Begin, Ahead, Reach, Back, Backed, Meets, Tell}
+use Rattle.theory.specs.Steps.{Begin, Ahead, Reach, Back, Backed, Tell}
 use Rattle.theory.specs.Machine.{Machine, Has, Lawful}
 use Rattle.theory.specs.Scans.{reach, backs}
-use Rattle.theory.proofs.Words.{cons≢nil}
 
 module _ {Sym : Type 0} (passes : ℕ → Sym → Bool) (P : Positions) where
   ahead-mono : (S R : ℕ → Type 0) (a : Sym) → ((p : ℕ) → S p → R p) → (p : ℕ) → Ahead passes P S a p → Ahead passes P R a p

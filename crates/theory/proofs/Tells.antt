@@ -1,7 +1,7 @@
 -- By the step rule the positions of a pattern tell its words, ahead and back.
-use mathlib.Core.Path.{_≡_, refl, sym, ap, subst, _∙_}
+use mathlib.Core.Path.{_≡_, refl, ap, subst}
 use mathlib.Core.List.{List, [], _∷_, _++_}
-use mathlib.Core.Logic.{_⊎_, inl, inr, _↔_}
+use mathlib.Core.Logic.{inl, inr}
 use mathlib.Core.Bool.{Bool}
 use Prim.Native.Nat.{ℕ}
 use lib.Dec.{T}
@@ -10,11 +10,11 @@ use Rattle.std.specs.declared.option.Option.the-variants.{Some, None}
 use Rattle.pattern.specs.Tree.{Tree}
 use Rattle.theory.specs.Words.{Word, Words, Begins}
 use Rattle.theory.specs.Positions.{Positions, positions, FromOne}
-use Rattle.theory.specs.Steps.{Begin, Next, Ahead, Reach, Back, Backed, Meets, Tell}
+use Rattle.theory.specs.Steps.{Begin, Next, Ahead, Reach, Backed, Meets, Tell}
 use Rattle.theory.proofs.Numbers.{In, Distinct, first-in, follow-in, no-zero, distinct}
-use Rattle.theory.proofs.Places.{First, Last, Follow, first-is, last-is, follow-is}
+use Rattle.theory.proofs.Places.{First, Follow, first-is, last-is, follow-is}
 use Rattle.theory.proofs.Rest.{Rest, last-rest, rest-last, word-starts, starts-word, rest-steps, steps-rest}
-use Rattle.theory.proofs.Words.{cons≢nil, null-word, word-null}
+use Rattle.theory.proofs.Words.{null-word, word-null}
 
 module _ {Sym : Type 0} (passes : ℕ → Sym → Bool) (t : Tree) where
   abbrev P : Positions

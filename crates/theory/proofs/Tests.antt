@@ -1,7 +1,7 @@
 -- Tests as facts.
-use mathlib.Core.Path.{_≡_, refl, sym, subst}
-use mathlib.Core.Logic.{_⊎_, inl, inr, _↔_, Iff·trans}
-use mathlib.Core.Bool.{Bool, true, false, _&&_, _||_}
+use mathlib.Core.Path.{_≡_, refl}
+use mathlib.Core.Logic.{_⊎_, inl, inr, _↔_}
+use mathlib.Core.Bool.{Bool, true, false, not, _&&_, _||_}
 use Prim.Native.Nat.{ℕ}
 use lib.Dec.{T, eqb, eqb→eq, eqb-refl}
 
@@ -53,3 +53,7 @@ same-test true true e = refl
 same-test true false e = absurd (e .0 tt)
 same-test false true e = absurd (e .1 tt)
 same-test false false e = refl
+
+pub no-test : (a : Bool) → (T a → ⊥) → T (not a)
+no-test true n = n tt
+no-test false n = tt

@@ -1,5 +1,5 @@
 -- The ahead scan over a whole record says yes exactly when the record is a word.
-use mathlib.Core.Path.{_≡_, sym, subst}
+use mathlib.Core.Path.{sym, subst}
 use mathlib.Core.List.{List, [], _∷_}
 use mathlib.Core.Logic.{_↔_, Iff·trans}
 use mathlib.Core.Bool.{Bool, true, false}
@@ -7,7 +7,7 @@ use Prim.Native.Nat.{ℕ}
 use lib.Dec.{T}
 use Rattle.theory.specs.Positions.{Positions}
 use Rattle.theory.specs.Steps.{Tell}
-use Rattle.theory.specs.Machine.{Machine, Has, Lawful}
+use Rattle.theory.specs.Machine.{Machine, Lawful}
 use Rattle.theory.specs.Scans.{reach, run, whole}
 use Rattle.theory.proofs.Sets.{dead, last-says}
 

@@ -1,6 +1,6 @@
 -- Sets that are numbers are the same at any width that suffices; and symbols that pass the same tests lead alike.
-use mathlib.Core.Path.{_≡_, refl, sym, ap, subst, _∙_, fun-ext}
-use mathlib.Core.Logic.{_⊎_, inl, inr, _↔_, Iff·trans, Iff·symm}
+use mathlib.Core.Path.{_≡_, sym, ap, subst, _∙_, fun-ext}
+use mathlib.Core.Logic.{inl, inr, _↔_, Iff·trans, Iff·symm}
 use mathlib.Core.Bool.{Bool}
 use Prim.Native.Nat.{ℕ}
 use lib.Dec.{T, eqb}

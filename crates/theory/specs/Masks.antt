@@ -24,16 +24,26 @@ unfoldable pub some : ℕ → (ℕ → Bool) → Bool
 some zero f = false
 some (suc k) f = some k f || f k
 
--- the step rule over such sets
+-- the step rule below n, from a set given by its members
+abbrev pub ahead-set : {Sym : Type 0} → ℕ → (ℕ → Sym → Bool) → Positions → (ℕ → Bool) → Sym → ℕ → Bool
+ahead-set n passes P S a q = passes q a && (S 0 && P .first q || some n (λ p. S p && P .follow p q))
+
+abbrev pub back-set : {Sym : Type 0} → ℕ → (ℕ → Sym → Bool) → Positions → (ℕ → Bool) → Sym → ℕ → Bool
+back-set n passes P S a p = eqb p 0 || passes p a && (P .last p && S 0 || some n (λ q. S q && P .follow p q))
+
+-- a member of both, below n
+abbrev pub common : ℕ → (ℕ → Bool) → (ℕ → Bool) → Bool
+common n S f = some n (λ p. S p && f p)
+
 abbrev pub masks : {Sym : Type 0} → ℕ → (ℕ → Sym → Bool) → Positions → Machine Sym ℕ
 masks n passes P =
     record {
       has = holds;
       begin = 1;
-      ahead = λ S a. those n (λ q. passes q a && (holds S 0 && P .first q || some n (λ p. holds S p && P .follow p q)));
-      back = λ S a. those n (λ p. eqb p 0 || passes p a && (P .last p && holds S 0 || some n (λ q. holds S q && P .follow p q)));
-      first = λ S. some n (λ p. holds S p && P .first p);
-      last = λ S. some n (λ p. holds S p && P .last p);
+      ahead = λ S a. those n (ahead-set n passes P (holds S) a);
+      back = λ S a. those n (back-set n passes P (holds S) a);
+      first = λ S. common n (holds S) (P .first);
+      last = λ S. common n (holds S) (P .last);
       empty = λ S. eqb S 0;
       nullable = P .nullable;
     }

@@ -2,8 +2,8 @@
 use mathlib.Core.Path.{_≡_}
 use mathlib.Core.List.{List, [], _∷_, _++_, map, reverse}
 use mathlib.Core.Logic.{_⊎_, _↔_}
-use mathlib.Core.Bool.{Bool}
-use Prim.Native.Nat.{ℕ, suc, _-_, _*_, _≤_, _<_}
+use mathlib.Core.Bool.{Bool, false, not}
+use Prim.Native.Nat.{ℕ, suc, _-_, _*_, _^_, _≤_, _<_}
 use lib.Dec.{T}
 use lib.ListN.{length, take, drop}
 use Rattle.std.specs.declared.option.Option.{Option}
@@ -21,7 +21,7 @@ use Rattle.theory.specs.Spans.{Finds, Lists, end-of}
 use Rattle.theory.specs.Machine.{Machine, Lawful, Extensional, rule}
 use Rattle.theory.specs.Scans.{reach, find, list, Listing, whole}
 use Rattle.theory.specs.Reads.{Read, back-reads, ahead-reads, find-reads, list-reads, whole-reads}
-use Rattle.theory.specs.Masks.{masks, Within}
+use Rattle.theory.specs.Masks.{holds, those, some, ahead-set, back-set, common, masks, Within}
 use Rattle.theory.specs.Seal.{sealed}
 
 -- there is one and no other
@@ -78,11 +78,28 @@ pub record Reading (Sym Set : Type 0) (m : Machine Sym Set) : Type 0 where
   pub find-most : (r : List Sym) (from : ℕ) → length (find-reads m r from) ≤ 2 * (length r - from)
   pub whole-most : (r : List Sym) → length (whole-reads m r) ≤ length r
 
+-- a pattern without words: nothing is found, no record is a word, not even an empty one, and a find still reads back
+pub record Wordless {Sym Set : Type 0} (m : Machine Sym Set) : Type 0 where
+  pub nothing : (r : List Sym) (from : ℕ) → find m r from ≡ None
+  pub never : (r : List Sym) → whole m r ≡ false
+  pub reads : (r : List Sym) (from : ℕ) → find-reads m r from ≡ back-reads m (drop from r)
+
+abbrev pub Without-words : Type 0 → Type 0 → Type 0
+Without-words Sym Set = (passes : ℕ → Sym → Bool) (m : Machine Sym Set) → Lawful passes (positions None) m → Wordless m
+
 -- sets that are numbers: lawful at every width above the atoms, and the same at each
 pub record Masking (Sym : Type 0) (passes : ℕ → Sym → Bool) : Type 0 where
   pub lawful : (o : Option Tree) (n : ℕ) → FromOne o → atoms o < n → Lawful passes (positions o) (masks n passes (positions o))
   pub extensional : (P : Positions) (n : ℕ) → Extensional (masks n passes P)
   pub any-width : (P : Positions) (n k : ℕ) → Within n P → Within k P → masks n passes P ≡ masks k passes P
+  -- the members of a set are all that counts, so a step may be made on members
+  pub ahead : (P : Positions) (n : ℕ) → 0 < n → (f : ℕ → Bool) (a : Sym) → masks n passes P .ahead (those n f) a ≡ those n (ahead-set n passes P f a)
+  pub back : (P : Positions) (n : ℕ) → 0 < n → (f : ℕ → Bool) (a : Sym) → masks n passes P .back (those n f) a ≡ those n (back-set n passes P f a)
+  pub first : (P : Positions) (n : ℕ) (f : ℕ → Bool) → masks n passes P .first (those n f) ≡ common n f (P .first)
+  pub last : (P : Positions) (n : ℕ) (f : ℕ → Bool) → masks n passes P .last (those n f) ≡ common n f (P .last)
+  pub empty : (P : Positions) (n : ℕ) (f : ℕ → Bool) → masks n passes P .empty (those n f) ≡ not (some n f)
+  pub members : (n : ℕ) (f : ℕ → Bool) (p : ℕ) → p < n → holds (those n f) p ≡ f p
+  pub number : (n S : ℕ) (f : ℕ → Bool) → S < 2 ^ n → ((p : ℕ) → p < n → holds S p ≡ f p) → S ≡ those n f
 
 -- the positions that are made from codes are those of their tree
 abbrev pub Sealing : Type 0

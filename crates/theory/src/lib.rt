@@ -3,7 +3,7 @@
 ghost use mathlib.Core.Bool.{Bool};
 ghost use Prim.Native.Nat.{ℕ};
 ghost use Rattle.theory.specs.Machine.{Machine};
-ghost use Rattle.theory.specs.Theorems.{Telling, Answering, Searches, Reading, Masking, Sealing, Alike};
+ghost use Rattle.theory.specs.Theorems.{Telling, Answering, Searches, Without-words, Reading, Masking, Sealing, Alike};
 ghost use Rattle.theory.specs.Trials.{Trials};
 
 // The symbols `start` to `end - 1` of a record.
@@ -37,6 +37,13 @@ pub fn answers_stand<S>(_symbol: &S) -> u8
 // The scans give these answers, however sets of positions are held.
 pub fn searches_stand<S, Q>(_symbol: &S, _set: &Q) -> u8
     ensures { λ _. ⌜ Searches S Q ⌝ }
+{
+    0
+}
+
+// A pattern without words, as an empty draft gives one, can be searched with too.
+pub fn wordless_stands<S, Q>(_symbol: &S, _set: &Q) -> u8
+    ensures { λ _. ⌜ Without-words S Q ⌝ }
 {
     0
 }
