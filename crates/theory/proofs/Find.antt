@@ -96,7 +96,7 @@ module _ {Sym Set : Type 0} (passes : ℕ → Sym → Bool) (P : Positions) (m :
       let b′ : ℕ = cond (m .last S′) (suc i) b in
       let ih : Furthest (Held S′ w) b′ (suc i) (far m b′ (suc i) S′ w) = far-is b′ (suc i) S′ w in
       (elim (m .empty S′) as
-      (λ x. (T x → (k : ℕ) → Held S (a ∷ w) k → ⊥) → Furthest (Held S (a ∷ w)) b i (elim x [ true ↦ b | false ↦ far m b′ (suc i) S′ w ])) [
+      (λ x. (T x → (k : ℕ) → Held S (a ∷ w) k → ⊥) → Furthest (Held S (a ∷ w)) b i (cond x b (far m b′ (suc i) S′ w))) [
         | true ↦ λ n. inl (refl, n tt)
         | false ↦ λ n. furthest-more (Held S (a ∷ w)) (Held S′ w) (m .last S′) b i (far m b′ (suc i) S′ w) (held-down S a w)
             (λ x. (omega arith, omega arith, x)) (λ k h. (omega arith, omega (arith, h .1), h .2)) ih
@@ -110,7 +110,7 @@ module _ {Sym Set : Type 0} (passes : ℕ → Sym → Bool) (P : Positions) (m :
   start-is n i (a ∷ w) =
       let ih : Smallest (Marked w) (suc i) (start m (suc i) w) = start-is n (suc i) w in
       (elim (m .first (backs m (a ∷ w))) as
-      (λ x. x ≡ m .first (backs m (a ∷ w)) → Smallest (Marked (a ∷ w)) i (elim x [ true ↦ Some i | false ↦ start m (suc i) w ])) [
+      (λ x. x ≡ m .first (backs m (a ∷ w)) → Smallest (Marked (a ∷ w)) i (cond x (Some i) (start m (suc i) w))) [
         | true ↦ λ e. (0, omega arith, subst T e tt, λ j p. omega arith)
         | false ↦ λ e. smallest-more (Marked (a ∷ w)) i (start m (suc i) w) (λ p. subst T (sym e) p) ih
       ]) refl

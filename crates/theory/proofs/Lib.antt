@@ -12,6 +12,7 @@ pub mod Seal
 pub mod Sets
 pub mod Tells
 pub mod Tests
+pub mod Turns
 pub mod Whole
 pub mod Widths
 pub mod Wordless

@@ -1,6 +1,6 @@
 -- The list by scans is the list of the relation, which has one answer.
 use mathlib.Core.Path.{_≡_, refl, ap, subst}
-use mathlib.Core.List.{List, [], _∷_}
+use mathlib.Core.List.{List, _∷_}
 use mathlib.Core.Bool.{Bool}
 use Prim.Native.Nat.{ℕ, zero, suc}
 use native.Mathlib.Omega.{arith}
@@ -12,7 +12,7 @@ use Rattle.theory.specs.Steps.{Tell}
 use Rattle.theory.specs.Spans.{Finds, Lists}
 use Rattle.theory.specs.Spans.Lists.{done, full, next}
 use Rattle.theory.specs.Machine.{Machine, Lawful}
-use Rattle.theory.specs.Scans.{find, Listing, ended, wrote, list}
+use Rattle.theory.specs.Scans.{find, Listing, no-entry, one-entry, list}
 use Rattle.theory.specs.Theorems.{Rest-says}
 use Rattle.theory.proofs.Find.{finds-one, find-finds}
 
@@ -49,12 +49,13 @@ module _ {Sym Set : Type 0} (passes : ℕ → Sym → Bool) (P : Positions) (m :
   Listed from k l = Lists L r from k (l .written) (l .rest)
 
   pub list-lists : (k from : ℕ) → Listed from k (list m r k from)
-  list-lists zero from =
-      (elim (find m r from) as
-      (λ f. Finds L r from f → Listed from 0 (elim f [ None ↦ ended | Some x ↦ record { written = []; rest = Some from } ]))
-      [ None ↦ λ x. done x | Some y ↦ λ x. full y x ]) (find-finds passes P m lawful L tell r from)
-  list-lists (suc k) from =
-      let ih = list-lists k in
-      (elim (find m r from) as
-      (λ f. Finds L r from f → Listed from (suc k) (elim f [ None ↦ ended | Some x ↦ wrote x (list m r k (x .end)) ]))
-      [ None ↦ λ x. done x | Some y ↦ λ x. next y x (ih (y .end)) ]) (find-finds passes P m lawful L tell r from)
+  list-lists zero from = go (find m r from) (find-finds passes P m lawful L tell r from)
+    where
+      go : (o : Option Span) → Finds L r from o → Listed from 0 (no-entry from o)
+      go None f = done f
+      go (Some x) f = full x f
+  list-lists (suc k) from = go (find m r from) (find-finds passes P m lawful L tell r from) (list-lists k)
+    where
+      go : (o : Option Span) → Finds L r from o → ((e : ℕ) → Listed e k (list m r k e)) → Listed from (suc k) (one-entry o (list m r k))
+      go None f further = done f
+      go (Some x) f further = next x f (further (x .end))

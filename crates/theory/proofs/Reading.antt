@@ -14,7 +14,7 @@ use Rattle.theory.specs.declared.Direction.the-variants as way
 use Rattle.theory.specs.declared.Span.{Span}
 use Rattle.theory.specs.Machine.{Machine}
 use Rattle.theory.specs.Scans.{reach, backs, start, far, from-start, find}
-use Rattle.theory.specs.Reads.{Read, back-reads, ahead-reads, start-reads, find-reads, list-reads}
+use Rattle.theory.specs.Reads.{Read, back-reads, ahead-reads, start-reads, find-reads, next-reads, list-reads}
 use Rattle.theory.specs.Theorems.{Reading}
 
 module _ {Sym Set : Type 0} (m : Machine Sym Set) where
@@ -84,7 +84,7 @@ module _ {Sym Set : Type 0} (m : Machine Sym Set) where
   start-from i [] = tt
   start-from i (a ∷ w) =
       let ih = later i (start m (suc i) w) (start-from (suc i) w) in
-      elim (m .first (backs m (a ∷ w))) as (λ x. From i (elim x [ true ↦ Some i | false ↦ start m (suc i) w ])) [ true ↦ omega arith | false ↦ ih ]
+      elim (m .first (backs m (a ∷ w))) as (λ x. From i (cond x (Some i) (start m (suc i) w))) [ true ↦ omega arith | false ↦ ih ]
 
   start-most : (r : List Sym) (from : ℕ) (o : Option ℕ) → From from o → length (start-reads m r o) ≤ length r - from
   start-most r from None h = omega arith
@@ -106,17 +106,12 @@ module _ {Sym Set : Type 0} (m : Machine Sym Set) where
       let same : record { start = s; end = far m s s (m .begin) (drop s r) } ≡ x = cc in
       ap (λ (y : Span). ahead-reads m (m .begin) (drop (y .start) r)) same
 
-  next-reads : (r : List Sym) (entries : ℕ) → Option Span → List (Read Sym Set)
-  next-reads r entries o = elim o [ None ↦ [] | Some x ↦ list-reads m r entries (x .end) ]
-
   list-done : (r : List Sym) (from entries : ℕ) → find m r from ≡ None → list-reads m r entries from ≡ find-reads m r from
-  unfolding next-reads
   list-done r from zero e = refl
-  list-done r from (suc k) e = ap (λ o. find-reads m r from ++ next-reads r k o) e ∙ append-nil (find-reads m r from)
+  list-done r from (suc k) e = ap (λ o. find-reads m r from ++ next-reads o (list-reads m r k)) e ∙ append-nil (find-reads m r from)
 
   list-next : (r : List Sym) (from entries : ℕ) (x : Span) → find m r from ≡ Some x → list-reads m r (suc entries) from ≡ find-reads m r from ++ list-reads m r entries (x .end)
-  unfolding next-reads
-  list-next r from k x e = ap (λ o. find-reads m r from ++ next-reads r k o) e
+  list-next r from k x e = ap (λ o. find-reads m r from ++ next-reads o (list-reads m r k)) e
 
   pub reading : Reading Sym Set m
   reading =

@@ -2,7 +2,7 @@
 use mathlib.Core.Path.{sym, subst}
 use mathlib.Core.List.{List, [], _∷_}
 use mathlib.Core.Logic.{_↔_, Iff·trans}
-use mathlib.Core.Bool.{Bool, true, false}
+use mathlib.Core.Bool.{Bool, true, false, cond}
 use Prim.Native.Nat.{ℕ}
 use lib.Dec.{T}
 use Rattle.theory.specs.Positions.{Positions}
@@ -17,7 +17,7 @@ module _ {Sym Set : Type 0} (passes : ℕ → Sym → Bool) (P : Positions) (m :
   run-is (a ∷ w) S =
       let ih : T (run m (m .ahead S a) w) ↔ T (m .last (reach m (m .ahead S a) w)) = run-is w (m .ahead S a) in
       (elim (m .empty (m .ahead S a)) as
-      (λ x. (T x → T (m .last (reach m (m .ahead S a) w)) → ⊥) → T (elim x [ true ↦ false | false ↦ run m (m .ahead S a) w ]) ↔ T (m .last (reach m (m .ahead S a) w))) [
+      (λ x. (T x → T (m .last (reach m (m .ahead S a) w)) → ⊥) → T (cond x false (run m (m .ahead S a) w)) ↔ T (m .last (reach m (m .ahead S a) w))) [
         | true ↦ λ n. (λ h. absurd h, n tt)
         | false ↦ λ n. ih
       ])

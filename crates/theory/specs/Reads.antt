@@ -7,6 +7,7 @@ use Rattle.std.specs.declared.option.Option.{Option}
 use Rattle.std.specs.declared.option.Option.the-variants.{Some, None}
 use Rattle.theory.specs.declared.Direction.{Direction}
 use Rattle.theory.specs.declared.Direction.the-variants.{Ahead, Back}
+use Rattle.theory.specs.declared.Span.{Span}
 use Rattle.theory.specs.Machine.{Machine, rule}
 use Rattle.theory.specs.Scans.{backs, start, find}
 
@@ -54,10 +55,15 @@ start-reads m r (Some s) = ahead-reads m (m .begin) (drop s r)
 abbrev pub find-reads : {Sym Set : Type 0} → Machine Sym Set → List Sym → ℕ → List (Read Sym Set)
 find-reads m r from = back-reads m (drop from r) ++ start-reads m r (start m from (drop from r))
 
+-- if a span was found, the list goes on from its end
+abbrev pub next-reads : {A : Type 0} → Option Span → (ℕ → List A) → List A
+next-reads None further = []
+next-reads (Some x) further = further (x .end)
+
 -- a list with no entry free still makes its whole last find
 abbrev pub list-reads : {Sym Set : Type 0} → Machine Sym Set → List Sym → ℕ → ℕ → List (Read Sym Set)
 list-reads m r zero from = find-reads m r from
-list-reads m r (suc entries) from = find-reads m r from ++ elim (find m r from) [ None ↦ [] | Some x ↦ list-reads m r entries (x .end) ]
+list-reads m r (suc entries) from = find-reads m r from ++ next-reads (find m r from) (list-reads m r entries)
 
 abbrev pub whole-reads : {Sym Set : Type 0} → Machine Sym Set → List Sym → List (Read Sym Set)
 whole-reads m r = ahead-reads m (m .begin) r

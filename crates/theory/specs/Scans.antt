@@ -1,6 +1,6 @@
 -- Find, list and whole by scans, over any sets of positions.
 use mathlib.Core.List.{List, [], _∷_}
-use mathlib.Core.Bool.{Bool, true, false, cond}
+use mathlib.Core.Bool.{Bool, false, cond}
 use Prim.Native.Nat.{ℕ, zero, suc}
 use lib.ListN.{drop}
 use Rattle.std.specs.declared.option.Option.{Option}
@@ -21,12 +21,12 @@ backs m (a ∷ w) = m .back (backs m w) a
 -- the smallest place at which the set of the back scan holds a first position; w begins at i
 abbrev pub start : {Sym Set : Type 0} → Machine Sym Set → ℕ → List Sym → Option ℕ
 start m i [] = None
-start m i (a ∷ w) = elim (m .first (backs m (a ∷ w))) [ true ↦ Some i | false ↦ start m (suc i) w ]
+start m i (a ∷ w) = cond (m .first (backs m (a ∷ w))) (Some i) (start m (suc i) w)
 
 -- the end behind the furthest symbol at which the set of the ahead scan held a last position, or b; w begins at i
 abbrev pub far : {Sym Set : Type 0} → Machine Sym Set → ℕ → ℕ → Set → List Sym → ℕ
 far m b i S [] = b
-far m b i S (a ∷ w) = elim (m .empty (m .ahead S a)) [ true ↦ b | false ↦ far m (cond (m .last (m .ahead S a)) (suc i) b) (suc i) (m .ahead S a) w ]
+far m b i S (a ∷ w) = cond (m .empty (m .ahead S a)) b (far m (cond (m .last (m .ahead S a)) (suc i) b) (suc i) (m .ahead S a) w)
 
 -- without a start there is no ahead scan
 abbrev pub from-start : {Sym Set : Type 0} → Machine Sym Set → List Sym → Option ℕ → Option Span
@@ -41,20 +41,23 @@ pub record Listing : Type 0 where
   pub written : List Span
   pub rest : Option ℕ
 
-abbrev pub ended : Listing
-ended = record { written = []; rest = None }
+-- what was found, with no entry free, and with one; `further` lists on from an end
+abbrev pub no-entry : ℕ → Option Span → Listing
+no-entry from None = record { written = []; rest = None }
+no-entry from (Some x) = record { written = []; rest = Some from }
 
-abbrev pub wrote : Span → Listing → Listing
-wrote x l = record { written = x ∷ l .written; rest = l .rest }
+abbrev pub one-entry : Option Span → (ℕ → Listing) → Listing
+one-entry None further = record { written = []; rest = None }
+one-entry (Some x) further = record { written = x ∷ further (x .end) .written; rest = further (x .end) .rest }
 
 abbrev pub list : {Sym Set : Type 0} → Machine Sym Set → List Sym → ℕ → ℕ → Listing
-list m r zero from = elim (find m r from) [ None ↦ ended | Some x ↦ record { written = []; rest = Some from } ]
-list m r (suc entries) from = elim (find m r from) [ None ↦ ended | Some x ↦ wrote x (list m r entries (x .end)) ]
+list m r zero from = no-entry from (find m r from)
+list m r (suc entries) from = one-entry (find m r from) (list m r entries)
 
 -- whether all of w is read from S before a set is empty, and the set then holds a last position
 abbrev pub run : {Sym Set : Type 0} → Machine Sym Set → Set → List Sym → Bool
 run m S [] = m .last S
-run m S (a ∷ w) = elim (m .empty (m .ahead S a)) [ true ↦ false | false ↦ run m (m .ahead S a) w ]
+run m S (a ∷ w) = cond (m .empty (m .ahead S a)) false (run m (m .ahead S a) w)
 
 abbrev pub whole : {Sym Set : Type 0} → Machine Sym Set → List Sym → Bool
 whole m [] = m .nullable
