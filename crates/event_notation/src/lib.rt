@@ -5,6 +5,10 @@
 // values and - between. `start_of` tells by its first byte what an item is; `codes_at` reads what an atom names.
 ghost use mathlib.Core.Path.{_≡_};
 ghost use Prim.Native.Nat.{_+_, _^_, _<_};
+ghost use lib.ListN.{length, drop};
+ghost use Rattle.items.specs.Lexemes.{Within};
+ghost use Rattle.event_notation.specs.Law.{AtomLaw};
+ghost use Rattle.event_notation.specs.Trials.{Trials};
 ghost use Rattle.event_notation.specs.Reading.{startOf, every, named, lexed};
 
 mod number;
@@ -55,7 +59,7 @@ fn every() -> EventTest
 {
     EventTest {
         low: 0,
-        high: 16_777_215,
+        high: Events::last_code(),
         inverted: false,
     }
 }
@@ -83,12 +87,27 @@ fn named(codes: Span, inverted: bool) -> Lexeme<EventTest>
 // The notation of patterns over events.
 pub struct Events;
 
+impl Events {
+    // The code of the last event there can be, 255:65535. The contract shows the notation's trials.
+    pub fn last_code() -> u32
+        ensures is { λ r. ⌜ r ≡ 16777215 ⌝ }
+        ensures trials { λ _. ⌜ Trials ⌝ }
+    {
+        16_777_215
+    }
+}
+
 pub impl Notation for Events as EventNotation {
     type Test = EventTest;
 
     ghost lexed = { lexed };
 
-    fn next(text: &[u8], place: usize) -> Result<Lexeme<EventTest>, Refusal> {
+    fn next(text: &[u8], place: usize) -> Result<Lexeme<EventTest>, Refusal>
+        requires { ⌜ place < length (now text) ⌝ }
+        ensures is { λ r. ⌜ r ≡ lexed place (drop place (now (text .entry))) ⌝ }
+        ensures within { λ r. ⌜ Within place (length (now (text .entry))) r ⌝ }
+        ensures law { λ r. ⌜ AtomLaw (drop place (now (text .entry))) r ⌝ }
+    {
         match start_of(text[place]) {
             Start::Space => Ok(Lexeme {
                 token: Token::Space,
