@@ -1,0 +1,5 @@
+mod Asking
+mod Bytewise
+mod First
+mod Numbering
+mod Rows

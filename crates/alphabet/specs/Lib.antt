@@ -1,0 +1,4 @@
+pub mod Asked
+pub mod Numbering
+pub mod Bytes
+pub mod Own

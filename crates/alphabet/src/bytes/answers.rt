@@ -1,0 +1,63 @@
+// The bytes' answers as an alphabet.
+ghost use mathlib.Core.Path.{_≡_};
+ghost use Prim.Native.Nat.{ℕ, _<_, _≤_};
+ghost use lib.Dec.{ltb};
+ghost use lib.ListN.{length, take};
+ghost use Rattle.alphabet.specs.Bytes.{bytePasses, byteClasses, byteClass, byteAccepts, Classified};
+ghost use Rattle.alphabet.specs.Own.{byteTests};
+
+use crate::Alphabet;
+use crate::bytes::ByteClasses;
+use crate::bytes::table;
+use crate::kept::keep;
+use symbols::ByteTest;
+
+impl ByteClasses {
+    // The classes under the tests, of which the first 63 count.
+    pub fn of(tests: &[ByteTest]) -> ByteClasses
+        ensures tests { λ r. ⌜ byteTests r ≡ take 63 (now (tests .entry)) ⌝ }
+        ensures law { λ r. ⌜ Classified (byteTests r) ⌝ }
+    {
+        let mut own = [ByteTest { bits: [0; 32] }; 63];
+        let used = keep(&mut own, tests);
+        let table = table::tabulate(&own[..used]);
+        ByteClasses { tests: own, used, table }
+    }
+
+    fn byte_passes(&self, byte: u8, test: u8) -> bool
+        ensures { λ r. ⌜ r ≡ bytePasses (byteTests (now (self .entry))) test byte ⌝ }
+    {
+        if test == 0 || test as usize > self.used {
+            return false;
+        }
+        self.tests[test as usize - 1].passes(byte)
+    }
+}
+
+pub impl Alphabet for ByteClasses as ByteAlphabet {
+    type Symbol = u8;
+
+    ghost fit = { λ b. ltb b 256 };
+
+    ghost tests = { λ a. length (byteTests a) };
+
+    ghost passes = { λ a k b. bytePasses (byteTests a) k b };
+
+    ghost classes = { λ a. byteClasses (byteTests a) };
+
+    ghost classOf = { λ a b. byteClass (byteTests a) b };
+
+    ghost accepts = { λ a c k. byteAccepts (byteTests a) c k };
+
+    fn class_count(&self) -> u16 {
+        self.table.classes
+    }
+
+    fn class_of(&self, symbol: u8) -> u16 {
+        self.table.class[symbol as usize] as u16
+    }
+
+    fn class_passes(&self, class: u16, test: u8) -> bool {
+        class < self.table.classes && self.byte_passes(self.table.smallest[class as usize], test)
+    }
+}
