@@ -43,9 +43,9 @@ asked-alike (t ∷ ts) a b h =
     and-from (Bool·beq (passesByte t a) (passesByte t b)) (alike ts a b) (ap (λ x. Bool·beq x (passesByte t b)) (h 1) ∙ beq-same (passesByte t b))
     (asked-alike ts a b
     (λ k.
-        ⊎-elim (λ (e : k ≡ 0). ap (λ i. bytePasses ts i a) e ∙ asked-zero _ ts ∙ sym (asked-zero _ ts) ∙ sym (ap (λ i. bytePasses ts i b) e))
-        (λ (d : k ≡ 0 → ⊥). sym (asked-later (λ u. passesByte u a) t ts k d) ∙ h (suc k) ∙ asked-later (λ u. passesByte u b) t ts k d)
-        (cases-eq k 0)))
+    ⊎-elim (λ (e : k ≡ 0). ap (λ i. bytePasses ts i a) e ∙ asked-zero _ ts ∙ sym (asked-zero _ ts) ∙ sym (ap (λ i. bytePasses ts i b) e))
+    (λ (d : k ≡ 0 → ⊥). sym (asked-later (λ u. passesByte u a) t ts k d) ∙ h (suc k) ∙ asked-later (λ u. passesByte u b) t ts k d)
+    (cases-eq k 0)))
 
 pub alike-equivalence : (ts : List ByteTest) → Equivalence (alike ts)
 alike-equivalence ts =

@@ -34,8 +34,7 @@ digit-low false = omega arith
 
 pub row-more : (ts : List ByteTest) (i b n x : ℕ) (d : ByteTest) → i < length ts → n ≡ row (take i ts) b → n < 2 ^ i → x ≡ boolByte (passesByte (getD ts i d) b) → (n * 2 + x ≡ row (take (i + 1) ts) b) × (n * 2 + x < 2 ^ (i + 1))
 row-more ts i b n x d l e u h =
-    let f : ℕ → ByteTest → ℕ = λ m t. m * 2 + cond (passesByte t b) 1 0 in
-    (
+    let f : ℕ → ByteTest → ℕ = λ m t. m * 2 + cond (passesByte t b) 1 0 in (
       ap (λ m. m * 2 + x) e ∙ ap (λ y. row (take i ts) b * 2 + y) (h ∙ digit-is (passesByte (getD ts i d) b)) ∙ sym (folded-more f 0 ts i d l),
       let p : 2 ^ (i + 1) ≡ 2 ^ i * 2 = pow-add 2 i 1 in omega (arith, digit-low (passesByte (getD ts i d) b)),
     )
@@ -99,8 +98,7 @@ upto-new ts b n class smallests l m m′ e h =
     let eq = alike-equivalence ts in
     let leads-b : leads (alike ts) b ≡ true = eq-eqb (smallest (alike ts) b) b e in
     let low : howMany (leads (alike ts)) b ≤ b = howMany-le (leads (alike ts)) b in
-    let c = h .0 in
-    (
+    let c = h .0 in (
       ap (λ k. k + 1) c ∙ sym (ap (howMany (leads (alike ts))) (add-one b) ∙ howMany-yes (leads (alike ts)) b leads-b),
       below-set (byteClass ts) class b n (omega arith) (h .1) (c ∙ sym (class-leads (alike ts) b leads-b)),
       below-set (member (alike ts) 256) smallests n b (omega arith) (h .2) (sym (member-is (alike ts) eq 256 b n l leads-b (sym c))),
@@ -111,8 +109,7 @@ upto-old : (ts : List ByteTest) (b n r v : ℕ) (class smallests : List ℕ) →
 upto-old ts b n r v class smallests l m e u z h =
     let eq = alike-equivalence ts in
     let follows : leads (alike ts) b ≡ false = ne-eqb (smallest (alike ts) b) b (λ same. omega arith) in
-    let like : alike ts b r ≡ true = ap (alike ts b) (sym e) ∙ smallest-like (alike ts) eq b in
-    (
+    let like : alike ts b r ≡ true = ap (alike ts b) (sym e) ∙ smallest-like (alike ts) eq b in (
       h .0 ∙ sym (ap (howMany (leads (alike ts))) (add-one b) ∙ howMany-no (leads (alike ts)) b follows),
       below-set (byteClass ts) class b v (omega arith) (h .1) (z ∙ h .1 r u ∙ sym (class-same (alike ts) eq b r like)),
       h .2,

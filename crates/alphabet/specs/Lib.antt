@@ -1,4 +1,5 @@
 pub mod Asked
 pub mod Numbering
 pub mod Bytes
+pub mod Events
 pub mod Own

@@ -3,6 +3,7 @@
 ghost use Prim.Native.Nat.{_≤_};
 ghost use lib.ListN.{take};
 ghost use Rattle.alphabet.specs.Bytes.{Tabled};
+
 mod answers;
 mod table;
 

@@ -6,10 +6,13 @@ ghost use mathlib.Core.Logic.{_⊎_};
 ghost use Prim.Native.Nat.{ℕ, _<_, _≤_};
 
 mod bytes;
+mod events;
 mod kept;
 
 pub use bytes::ByteAlphabet;
 pub use bytes::ByteClasses;
+pub use events::EventAlphabet;
+pub use events::EventCuts;
 
 pub trait Alphabet {
     type Symbol: Copy;

@@ -83,7 +83,12 @@ impl EventTest {
     pub fn passes(&self, event: Event) -> bool
         ensures { λ r. ⌜ r ≡ passesCode (now (self .entry)) (codeOf event) ⌝ }
     {
-        let code = event.code();
+        self.passes_code(event.code())
+    }
+
+    pub fn passes_code(&self, code: u32) -> bool
+        ensures { λ r. ⌜ r ≡ passesCode (now (self .entry)) code ⌝ }
+    {
         (self.low <= code && code <= self.high) != self.inverted
     }
 }

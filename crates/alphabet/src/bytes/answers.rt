@@ -5,7 +5,6 @@ ghost use lib.Dec.{ltb};
 ghost use lib.ListN.{length, take};
 ghost use Rattle.alphabet.specs.Bytes.{bytePasses, byteClasses, byteClass, byteAccepts, Classified};
 ghost use Rattle.alphabet.specs.Own.{byteTests};
-
 use crate::Alphabet;
 use crate::bytes::ByteClasses;
 use crate::bytes::table;
@@ -21,7 +20,11 @@ impl ByteClasses {
         let mut own = [ByteTest { bits: [0; 32] }; 63];
         let used = keep(&mut own, tests);
         let table = table::tabulate(&own[..used]);
-        ByteClasses { tests: own, used, table }
+        ByteClasses {
+            tests: own,
+            used,
+            table,
+        }
     }
 
     fn byte_passes(&self, byte: u8, test: u8) -> bool
@@ -58,6 +61,6 @@ pub impl Alphabet for ByteClasses as ByteAlphabet {
     }
 
     fn class_passes(&self, class: u16, test: u8) -> bool {
-        class < self.table.classes && self.byte_passes(self.table.smallest[class as usize], test)
+        class < self.class_count() && self.byte_passes(self.table.smallest[class as usize], test)
     }
 }

@@ -3,7 +3,6 @@ ghost use mathlib.Core.Path.{_≡_};
 ghost use Prim.Native.Nat.{ℕ, _<_, _≤_};
 ghost use lib.ListN.{length, getD};
 ghost use Rattle.alphabet.specs.Bytes.{Tabled, row, FirstLike};
-
 use symbols::ByteTest;
 
 // The class of each byte, and the smallest byte of each class.
@@ -68,5 +67,9 @@ pub fn tabulate(tests: &[ByteTest]) -> ByteTable
             class[byte] = class[like];
         }
     }
-    ByteTable { classes, class, smallest }
+    ByteTable {
+        classes,
+        class,
+        smallest,
+    }
 }

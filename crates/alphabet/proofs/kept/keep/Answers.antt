@@ -13,15 +13,13 @@ take-least : {X : Type 0} (xs : List X) (n m : ℕ) → n ≡ min (length xs) m 
 take-least xs n m e =
     ⊎-elim (λ (l : length xs < m). take-all n xs (omega arith) ∙ sym (take-all m xs (omega arith))) (λ (l : m ≤ length xs). let f : n ≡ m = omega arith in ap (λ k. take k xs) f) (cases-lt (length xs) m)
 
-
 pub loop-i-again : need.loop-i-again
 loop-i-again g c =
     let i = c .loop-i .i in
-    let x = c .index-tests-i .result in
-    (
+    let x = c .index-tests-i .result in (
       length-set (c .loop-i .own) i x ∙ c .loop-i .inv .0,
       take-more-set (c .loop-i .own) i x (omega (arith, c .loop-i .inv .0)) ∙ ap (λ xs. xs ++ x ∷ []) (c .loop-i .inv .1) ∙ ap (λ y. take i (c .args .tests .now) ++ y ∷ []) (c .index-tests-i .is) ∙
-      sym (take-more (c .args .tests .now) i x (omega arith)),
+          sym (take-more (c .args .tests .now) i x (omega arith)),
     )
 
 pub returns : need.returns

@@ -14,8 +14,8 @@ pub returns-then-test-eq0 : need.returns-then-test-eq0
 returns-then-test-eq0 c =
     let ts = byteTests (c .args .self .now) in
     elim (c .then-test-eq0 .came) [
-      then-test-eq0·by·then-test-eq0 w ↦ sym (asked-none (λ t. passesByte t (c .args .byte)) ts (c .args .test) (inl (w .if-test-eq0 .taken)))
-    | then-test-eq0·by·else-test-eq0·then-test-self w ↦ sym (asked-none (λ t. passesByte t (c .args .byte)) ts (c .args .test) (inr (omega (arith, length-take (c .args .self .now .used) (c .args .self .now .tests)))))
+      | then-test-eq0·by·then-test-eq0 w ↦ sym (asked-none (λ t. passesByte t (c .args .byte)) ts (c .args .test) (inl (w .if-test-eq0 .taken)))
+      | then-test-eq0·by·else-test-eq0·then-test-self w ↦ sym (asked-none (λ t. passesByte t (c .args .byte)) ts (c .args .test) (inr (omega (arith, length-take (c .args .self .now .used) (c .args .self .now .tests)))))
     ]
 
 pub returns : need.returns

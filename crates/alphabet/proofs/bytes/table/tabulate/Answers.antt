@@ -16,11 +16,11 @@ loop-byte-again c =
     let rows = c .rows-rows in
     let like = c .first-like-like in
     elim (c .if-like-byte .came) [
-      then-like-byte w ↦
-        filled-at ts (l .byte + 1) (l .classes + 1) _ _ _ _ _ (w .class-is) (w .smallest-is) (w .classes-is)
+      | then-like-byte w ↦
+          filled-at ts (l .byte + 1) (l .classes + 1) _ _ _ _ _ (w .class-is) (w .smallest-is) (w .classes-is)
           (filled-new ts (rows .result) (l .byte) (l .classes) (like .result) (l .class) (l .smallest) (rows .ensures) (c .loop-byte-test .taken) (like .ensures) (w .if-like-byte .taken) (l .inv))
-    | else-like-byte w ↦
-        filled-at ts (l .byte + 1) (l .classes) _ _ _ _ _ (w .class-is) (w .smallest-is) (w .classes-is)
+      | else-like-byte w ↦
+          filled-at ts (l .byte + 1) (l .classes) _ _ _ _ _ (w .class-is) (w .smallest-is) (w .classes-is)
           (filled-old ts (rows .result) (l .byte) (l .classes) (like .result) _ (l .class) (l .smallest) (rows .ensures) (c .loop-byte-test .taken) (like .ensures) (w .if-like-byte .left) refl (l .inv))
     ]
 
