@@ -1,0 +1,12 @@
+pub mod Tally
+pub mod Maps
+pub mod Seats
+pub mod Readings
+pub mod Walks
+pub mod Calling
+pub mod Once
+pub mod Exact
+pub mod Laws
+pub mod Alphabets
+pub mod Alone
+pub mod Trials
