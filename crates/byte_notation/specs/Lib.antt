@@ -1,0 +1,4 @@
+pub mod Bounds
+pub mod Brackets
+pub mod Classes
+pub mod Lexing
