@@ -264,6 +264,12 @@ module _ {Sym States : Type 0} (M : Subject Sym States) where
     going m (c ∷ cs) [] n ok e = elim e [ ]
     going m (c ∷ cs) (a ∷ rs) n ok (k, (s, r)) = let i = calling m c k a ok s in one-more m c a k cs rs n i (going k cs rs n (i .sound) r)
 
+  pub series-snoc : (m : Memory States) (cs : List (Request Sym)) (rs : List Answer) (k : Memory States) (c : Request Sym) (a : Answer) (n : Memory States) → Series M m cs rs k → Answered M k c n a → Series M m (cs ++ (c ∷ [])) (rs ++ (a ∷ [])) n
+  series-snoc m [] [] k c a n e s = let P : Memory States → Type 0 = λ j. Answered M j c n a in (n, (subst P e s, refl))
+  series-snoc m [] (b ∷ rs) k c a n e s = elim e [ ]
+  series-snoc m (d ∷ cs) [] k c a n e s = elim e [ ]
+  series-snoc m (d ∷ cs) (b ∷ rs) k c a n (j, (t, r)) s = (j, (t, series-snoc j cs rs k c a n r s))
+
   -- a clear came last
 
   cleared-one : (m : Memory States) (n : Memory States) (a : Answer) → Answered M m Clear n a → (p : ℕ) → n .live p ≡ None

@@ -18,6 +18,7 @@ use Rattle.law.specs.Calls.{Query, Request, Search, Limit, Clear, Answer, Sear
 use Rattle.law.specs.Met.{unless-refused, call-reads, all-reads, number-of-sets, number-of-steps}
 use Rattle.law.specs.Law.{counts, searches, define, built, dropped, Uncleared, next-limit, least, Lawful, Every-series, Any-two, Law}
 use Rattle.law.proofs.Maps.{some-not}
+use Rattle.law.proofs.Possible.{possible}
 use Rattle.law.proofs.Calling.{sound-empty, Calling, calling, going, cleared-last, idle}
 use Rattle.law.proofs.Exact.{Carry, carry-opened, Carried, carry-walk, seen-after, keys-after, sets-in-all, keys-in-all, sets-append, keys-append, seen-append, key-append, sets-front, keys-front, keys-end}
 
@@ -119,6 +120,7 @@ module _ {Sym States : Type 0} (M : Subject Sym States) where
           answers = i .answers;
           defined = i .defined;
           words = i .words;
+          fixed = (i .places, i .capacity);
           once = i .sound .once;
           cleared = cleared-last M (opened places capacity) cs rs n s;
           allowed = omega (arith, i .sound .allowed, i .limit, i .places);
@@ -138,4 +140,4 @@ module _ {Sym States : Type 0} (M : Subject Sym States) where
   two places capacity cs rs n places′ capacity′ ds ts k f g e = f .defined ∙ ap (map (define M)) e ∙ sym (g .defined)
 
 pub law : {Sym States : Type 0} (M : Subject Sym States) → Proper M → Law M
-law M p = record { every = every M p; two = two M; idle = idle M }
+law M p = record { every = every M p; two = two M; idle = idle M; possible = possible M p }

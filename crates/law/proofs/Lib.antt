@@ -6,6 +6,7 @@ pub mod Walks
 pub mod Calling
 pub mod Once
 pub mod Exact
+pub mod Possible
 pub mod Laws
 pub mod Alphabets
 pub mod Alone

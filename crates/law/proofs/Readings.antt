@@ -10,7 +10,7 @@ use Rattle.memory.specs.Steps.{Map, nothing, noted, size}
 use Rattle.memory.proofs.Sizes.{size-noted, size-nothing}
 use Rattle.theory.specs.Reads.{Read, State, source, target}
 use Rattle.law.specs.Subject.{Subject, leads, Proper}
-use Rattle.law.specs.Memory.{Memory, allowance, steps-known, Seated, Noted, spare, full, with-steps, Joins, Sound}
+use Rattle.law.specs.Memory.{Memory, allowance, steps-known, Seated, already, Noted, spare, full, with-steps, Joins, Sound}
 use Rattle.law.specs.Reading.{Counts, Unknown, OneRead, known, built, plain}
 use Rattle.law.proofs.Maps.{some-not, Other, noted-cases}
 use Rattle.law.proofs.Seats.{Seating, seating, nowhere-few}
@@ -83,6 +83,10 @@ module _ {Sym States : Type 0} (M : Subject Sym States) where
       let P : Memory States → Type 0 = λ k. Noting m p c t k gone in
       let none : size (m .places) nothing ≡ 0 = size-nothing (m .places) in
       subst P (sym same) (noted-with m nothing p c t gone ok l cl j refl (λ q d u e. absurd (some-not u e)) (omega (arith, ok .some (omega arith))) (omega arith))
+
+  -- a known step from a live set changes nothing
+  pub known-read : (m : Memory States) (x : Read Sym States) (p t : ℕ) → M .fit (x .symbol) ≡ true → m .live p ≡ Some (source x) → m .known p (M .classOf (x .symbol)) ≡ Some t → OneRead M m x m (record { reads = 1; known = 1; built = 0; plain = 0; dropped = 0 })
+  known-read m x p t fit here e = known p t 0 fit (already p here refl refl refl) e refl
 
   -- what a read brings
   pub record Reading (m : Memory States) (n : Memory States) (k : Counts) : Type 0 where

@@ -28,6 +28,9 @@ module _ {Sym States : Type 0} (M : Subject Sym States) where
   pub walk-one : (m : Memory States) (x : Read Sym States) (n : Memory States) (a : Counts) → OneRead M m x n a → Walk M m (x ∷ []) n a
   walk-one m x n a s = (n, (a, (zeros, (s, (refl, refl), sym (both-zeros a)))))
 
+  pub walk-snoc : (m : Memory States) (xs : List (Read Sym States)) (k : Memory States) (a : Counts) (x : Read Sym States) (n : Memory States) (b : Counts) → Walk M m xs k a → OneRead M k x n b → Walk M m (xs ++ (x ∷ [])) n (both a b)
+  walk-snoc m xs k a x n b w s = walk-append m xs k a (x ∷ []) n b w (walk-one k x n b s)
+
   -- what a row of reads brings
   pub record Walking (m : Memory States) (xs : List (Read Sym States)) (n : Memory States) (k : Counts) : Type 0 where
     pub sound : Sound M n

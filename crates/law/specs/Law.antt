@@ -1,6 +1,6 @@
 -- The law over every series of calls on one searcher: what its answers are, what it remembers at the end, and how it counts.
 use mathlib.Core.Path.{_≡_}
-use mathlib.Core.Bool.{Bool, cond}
+use mathlib.Core.Bool.{Bool, true, cond}
 use mathlib.Core.List.{List, [], _∷_, _++_, map}
 use mathlib.Core.Logic.{_↔_}
 use Prim.Native.Nat.{ℕ, _+_, _-_, _*_, _<_, _≤_, min}
@@ -143,8 +143,9 @@ pub record Lawful {Sym States : Type 0} (M : Subject Sym States) (places capacit
   pub answers : length rs ≡ length cs
   pub defined : map outcome (replies cs rs) ≡ map (define M) (searches cs)
   pub words : Each (By-words M) cs rs
-  -- b. no set is live twice for one direction, none if a clear came last, never more than the allowance;
-  -- every known step joins live sets as the step rule does
+  -- b. the shelf's places and capacity stay; no set is live twice for one direction, none if a clear came last,
+  -- never more than the allowance; every known step joins live sets as the step rule does
+  pub fixed : (n .places ≡ places) × (n .capacity ≡ capacity)
   pub once : (p q : ℕ) (s : State States) → n .live p ≡ Some s → n .live q ≡ Some s → p ≡ q
   pub cleared : ClearLast cs → (p : ℕ) → n .live p ≡ None
   pub allowed : sets-live n ≤ min (last-limit 64 cs) places
@@ -177,7 +178,27 @@ Refusals-idle {Sym} {States} M =
     (m : Memory States) (c : Request Sym) (n : Memory States) (a : Answer) (q : Refusal) →
     refusal c ≡ Some q → Answered M m c n a → (a ≡ Refused q) × (n ≡ m)
 
+-- every symbol of a row has a value that a symbol can have
+abbrev pub Fit : {Sym States : Type 0} → Subject Sym States → List Sym → Type 0
+Fit M [] = Unit {0}
+Fit M (a ∷ w) = (M .fit a ≡ true) × Fit M w
+
+abbrev pub Fitting : {Sym States : Type 0} → Subject Sym States → List (Request Sym) → Type 0
+Fitting M [] = Unit {0}
+Fitting M (Search (Find r from) ∷ cs) = Fit M r × Fitting M cs
+Fitting M (Search (Lists r from entries) ∷ cs) = Fit M r × Fitting M cs
+Fitting M (Search (Whole r) ∷ cs) = Fit M r × Fitting M cs
+Fitting M (Limit l ∷ cs) = Fitting M cs
+Fitting M (Clear ∷ cs) = Fitting M cs
+
+-- every row of requests can be answered, on any shelf
+abbrev pub Possible : {Sym States : Type 0} → Subject Sym States → Type 0
+Possible {Sym} {States} M =
+    (places capacity : ℕ) (cs : List (Request Sym)) →
+    places ≤ 64 → (0 < places → 0 < capacity) → Fitting M cs → (rs : List Answer) × ((n : Memory States) × Series M (opened places capacity) cs rs n)
+
 pub record Law {Sym States : Type 0} (M : Subject Sym States) : Type 0 where
   pub every : Every-series M
   pub two : Any-two M
   pub idle : Refusals-idle M
+  pub possible : Possible M

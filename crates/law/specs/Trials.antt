@@ -8,11 +8,11 @@ use lib.ListN.{getD, length}
 use Rattle.std.specs.declared.option.Option.the-variants.{Some, None}
 use Rattle.pattern.specs.Tree.{Tree}
 use Rattle.pattern.specs.Tree.Tree.{atom, join, star}
-use Rattle.refusal.specs.declared.Cause.the-variants.{FromPastEnd}
+use Rattle.refusal.specs.declared.Cause.the-variants.{FromPastEnd, LimitTooLarge}
 use Rattle.law.specs.Subject.{Subject}
 use Rattle.law.specs.Memory.{Memory, opened}
 use Rattle.law.specs.Reading.{Counts}
-use Rattle.law.specs.Calls.{Query, Find, Lists, Whole, Request, Search, Limit, Findings, Found, Listed, Told, Answer, Searched, Dropped, Series}
+use Rattle.law.specs.Calls.{Query, Find, Lists, Whole, Request, Search, Limit, Findings, Found, Listed, Told, Answer, Searched, Dropped, refusal, Series}
 use Rattle.law.specs.Met.{number-of-sets, number-of-steps}
 use Rattle.law.specs.Law.{define, finds, refuses}
 use Rattle.law.specs.Alphabets.{masked}
@@ -68,5 +68,10 @@ pub record Trials : Type 0 where
   -- a* in "bb", and the whole of an empty record
   pub none : define many (Find (98 ∷ 98 ∷ []) 0) ≡ finds (Found None) 2
   pub empty : define many (Whole []) ≡ finds (Told true) 0
-  -- from a place past the end
+  -- limits 0 and 64 are accepted, 65 is refused
+  pub least : refusal {Sym = ℕ} (Limit 0) ≡ None
+  pub most : refusal {Sym = ℕ} (Limit 64) ≡ None
+  pub above : refusal {Sym = ℕ} (Limit 65) ≡ Some (record { cause = LimitTooLarge; place = 0 })
+  -- from the end, and from a place past it
+  pub end : define many (Find [] 0) ≡ finds (Found None) 0
   pub past : define many (Find [] 1) ≡ refuses (record { cause = FromPastEnd; place = 0 })

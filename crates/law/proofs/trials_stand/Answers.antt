@@ -5,4 +5,4 @@ use Rattle.law.proofs.trials_stand.Needs as need
 
 pub returns : need.returns
 unfolding those some
-returns c = record { found = refl; steps = refl; sets = refl; again = refl; roomy = roomy; alone = alone; lists = refl; none = refl; empty = refl; past = refl }
+returns c = record { found = refl; steps = refl; sets = refl; again = refl; roomy = roomy; alone = alone; lists = refl; none = refl; empty = refl; least = refl; most = refl; above = refl; end = refl; past = refl }
