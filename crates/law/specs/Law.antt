@@ -31,7 +31,7 @@ counts (Searched f k) = k
 counts (Dropped gone) = record { reads = 0; known = 0; built = 0; plain = 0; dropped = gone }
 counts (Refused q) = zeros
 
--- a. What is found
+-- What is found
 
 -- the searches of a series, in order
 abbrev pub searches : {Sym : Type 0} → List (Request Sym) → List (Query Sym)
@@ -48,7 +48,7 @@ replies (Search q ∷ cs) (a ∷ rs) = a ∷ replies cs rs
 replies (Limit l ∷ cs) (a ∷ rs) = replies cs rs
 replies (Clear ∷ cs) (a ∷ rs) = replies cs rs
 
--- what a search comes to, but for how its reads were counted: findings and reads, or a refusal
+-- what a call comes to, but for how its reads were counted: findings and their reads, a refusal, or, of limit and clear, neither
 pub data Outcome : Type 0 where
   finds : Findings → (reads : ℕ) → Outcome
   refuses : Refusal → Outcome
@@ -84,7 +84,7 @@ Says M (Whole r) (Told y) = T y ↔ Word M r
 abbrev pub By-words : {Sym States : Type 0} → Subject Sym States → Request Sym → Answer → Type 0
 By-words {Sym} M c a = (q : Query Sym) → c ≡ Search q → refusal c ≡ None → (f : Findings) × ((k : Counts) × ((a ≡ Searched f k) × Says M q f))
 
--- b. What is remembered
+-- What is remembered
 
 -- a clear came last
 abbrev pub ClearLast : {Sym : Type 0} → List (Request Sym) → Type 0
@@ -101,7 +101,7 @@ abbrev pub last-limit : {Sym : Type 0} → ℕ → List (Request Sym) → ℕ
 last-limit l [] = l
 last-limit l (c ∷ cs) = last-limit (next-limit l c) cs
 
--- c. How it is counted
+-- How it is counted
 
 abbrev pub built : List Answer → ℕ
 built [] = 0
@@ -139,18 +139,18 @@ least places l (c ∷ cs) = min (min l places) (least places (next-limit l c) cs
 
 -- on a searcher that was opened on a shelf of so many places and this capacity, the requests cs were answered rs, and left the memory n
 pub record Lawful {Sym States : Type 0} (M : Subject Sym States) (places capacity : ℕ) (cs : List (Request Sym)) (rs : List Answer) (n : Memory States) : Type 0 where
-  -- a. there is one answer for each call; findings, refusals and reads are those defined; findings are right by words
+  -- there is one answer for each call; findings, refusals and reads are those defined; findings are right by words
   pub answers : length rs ≡ length cs
   pub defined : map outcome (replies cs rs) ≡ map (define M) (searches cs)
   pub words : Each (By-words M) cs rs
-  -- b. the shelf's places and capacity stay; no set is live twice for one direction, none if a clear came last,
+  -- the shelf's places and capacity stay; no set is live twice for one direction, none if a clear came last,
   -- never more than the allowance; every known step joins live sets as the step rule does
   pub fixed : (n .places ≡ places) × (n .capacity ≡ capacity)
   pub once : (p q : ℕ) (s : State States) → n .live p ≡ Some s → n .live q ≡ Some s → p ≡ q
   pub cleared : ClearLast cs → (p : ℕ) → n .live p ≡ None
   pub allowed : sets-live n ≤ min (last-limit 64 cs) places
   pub joins : (p c t : ℕ) → n .known p c ≡ Some t → Joins M n p c t
-  -- c. every read of every search is counted just as its step has it
+  -- every read of every search is counted just as its step has it
   pub counted : Series M (opened places capacity) cs rs n
   pub summed : Each Summed cs rs
   pub short : Each Short cs rs
