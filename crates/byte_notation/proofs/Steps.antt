@@ -8,7 +8,7 @@ use native.Mathlib.Nat.{add-zero}
 use native.Mathlib.Omega.{arith}
 use lib.Dec.{eqb, ltb}
 use lib.ListN.{length, drop, getD}
-use Rattle.std.proofs.shelf.Lists.{drop-drop, drop-all, drop-more, at-drop-more, at-drop-all}
+use Rattle.std.proofs.shelf.Lists.{drop-drop, at-drop-more, at-drop-all}
 use Rattle.std.proofs.shelf.Tests.{cases-lt, eq-eqb, ne-eqb, le-ltb, lt-ltb}
 use Rattle.std.specs.declared.option.Option.{Option}
 use Rattle.std.specs.declared.option.Option.the-variants.{Some, None}

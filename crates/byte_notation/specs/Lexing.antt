@@ -1,5 +1,5 @@
 -- What the byte notation reads at a place: a sign, an atom with its test, or a refusal.
-use mathlib.Core.Bool.{Bool, true, false, cond, _||_}
+use mathlib.Core.Bool.{cond}
 use mathlib.Core.List.{List, [], _∷_}
 use Prim.Native.Nat.{ℕ, _+_}
 use lib.Chars.{codes}
@@ -17,6 +17,7 @@ use Rattle.items.specs.declared.Sign.the-variants.{Open, Close, Bar, Star, Plus
 use Rattle.items.specs.declared.Token.the-variants as token
 use Rattle.symbols.specs.declared.ByteTest.{ByteTest}
 use Rattle.symbols.specs.ByteSets.{noByte, withByte, others}
+use Rattle.byte_notation.specs.Atoms.{oneOf}
 use Rattle.byte_notation.specs.Brackets.{bracket}
 
 abbrev pub refused : Cause → ℕ → Result (Lexeme ByteTest) Refusal
@@ -35,10 +36,6 @@ onlyByte b = withByte noByte b
 -- every byte but 10
 abbrev pub anyByte : ByteTest
 anyByte = others (onlyByte 10)
-
-abbrev pub oneOf : ℕ → List ℕ → Bool
-oneOf b [] = false
-oneOf b (c ∷ cs) = eqb b c || oneOf b cs
 
 -- the byte that a backslash before c gives
 abbrev pub escapeOf : ℕ → Option ℕ

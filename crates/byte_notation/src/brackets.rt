@@ -1,14 +1,15 @@
 // Brackets, as [a-z_] or [^[:digit:]].
+//
+// A bracket is read member by member. A member is a class, a range or one byte, and `advance` says by the state and the next
+// byte whether another member begins or the bracket closes. Each member is put into the set of the bytes named so far.
 ghost use mathlib.Core.Path.{_≡_};
-ghost use Prim.Native.Nat.{ℕ, _+_, _<_, _≤_};
-ghost use lib.ListN.{length, getD, drop};
-ghost use Rattle.symbols.specs.ByteSets.{noByte};
-ghost use Rattle.items.specs.Lexemes.{Within};
-ghost use Rattle.byte_notation.specs.Brackets.{after, rangeEnd, memberAt, behind, withMember, withRanges, members, caret, tested, bracket};
 ghost use mathlib.Core.Bool.{true};
+ghost use Prim.Native.Nat.{_+_, _<_, _≤_};
+ghost use lib.ListN.{length, getD, drop};
+ghost use Rattle.items.specs.Lexemes.{Within};
+ghost use Rattle.symbols.specs.ByteSets.{noByte};
 ghost use Rattle.byte_notation.specs.Bounds.{Numbered, Sound, Fitting, Closing};
-ghost use Rattle.byte_notation.specs.Classes.{ranges};
-ghost use mathlib.Core.List.{[]};
+ghost use Rattle.byte_notation.specs.Brackets.{after, rangeEnd, memberAt, behind, withMember, withRanges, members, caret, tested, bracket};
 use super::classes::ByteRange;
 use super::classes::ranges_of;
 use super::classes::read_class;

@@ -3,9 +3,10 @@
 // A sign or a byte that stands for itself is one byte, an escape two. A bracket is read member by member, in `brackets`; its
 // members are single bytes, ranges and the named classes of `classes`.
 ghost use mathlib.Core.Path.{_≡_};
-ghost use Prim.Native.Nat.{ℕ, _+_, _<_, _≤_};
+ghost use Prim.Native.Nat.{_+_, _<_};
 ghost use lib.ListN.{length, getD, drop};
 ghost use Rattle.items.specs.Lexemes.{Within};
+ghost use Rattle.byte_notation.specs.Law.{Reads};
 ghost use Rattle.byte_notation.specs.Lexing.{lexed, item, escape, escapeOf, signed, atom as atomOf, onlyByte, anyByte};
 use items::Lexeme;
 use items::Notation;
@@ -17,6 +18,7 @@ use symbols::ByteTest;
 
 mod brackets;
 mod classes;
+pub mod laws;
 
 // The notation's name, where a reader is told which notation to read.
 pub struct Bytes;
@@ -26,7 +28,12 @@ pub impl Notation for Bytes as ByteNotation {
 
     ghost lexed = { lexed };
 
-    fn next(text: &[u8], place: usize) -> Result<Lexeme<ByteTest>, Refusal> {
+    fn next(text: &[u8], place: usize) -> Result<Lexeme<ByteTest>, Refusal>
+        requires { ⌜ place < length (now text) ⌝ }
+        ensures is { λ r. ⌜ r ≡ lexed place (drop place (now (text .entry))) ⌝ }
+        ensures within { λ r. ⌜ Within place (length (now (text .entry))) r ⌝ }
+        ensures law { λ r. ⌜ Reads place (drop place (now (text .entry))) r ⌝ }
+    {
         read_item(text, place)
     }
 }

@@ -1,15 +1,15 @@
 -- Which bytes pass the sets.
-use Prim.Native.Nat.{ℕ, zero, suc, _+_, _*_, _/_, _%_, _^_, _-_, _<_, _≤_}
-use mathlib.Core.Path.{_≡_, refl, sym, ap, subst, _∙_}
-use mathlib.Core.Bool.{Bool, true, false, not, _&&_, _||_}
+use Prim.Native.Nat.{ℕ, zero, suc, _+_, _/_, _%_, _^_, _-_, _<_, _≤_}
+use mathlib.Core.Path.{_≡_, refl, sym, ap, _∙_}
+use mathlib.Core.Bool.{Bool, true, false, _&&_, _||_}
 use mathlib.Core.List.{List, map, _++_, append-nil}
-use mathlib.Core.Logic.{_⊎_, inl, inr, ⊎-elim}
+use mathlib.Core.Logic.{_⊎_, ⊎-elim}
 use native.Mathlib.Omega.{arith}
 use native.Mathlib.Nat.{zero-div}
 use lib.Bits.{bitOr, bitXor}
 use lib.Dec.{eqb, leb, ltb}
 use lib.ListN.{length, getD, set, replicate, length-set, take, drop}
-use Rattle.std.proofs.shelf.Lists.{getD-set-same, getD-set-other, getD-replicate, getD-past, getD-map, length-replicate, take-all, drop-all, getD-default, length-append, length-map, length-take, length-drop}
+use Rattle.std.proofs.shelf.Lists.{getD-set-same, getD-set-other, getD-replicate, getD-past, getD-map, length-replicate, take-all, drop-all, getD-default, set-past, length-append, length-map, length-take, length-drop}
 use Rattle.std.proofs.shelf.Edits.{map-over-more}
 use Rattle.std.proofs.shelf.Bits.{mod-below}
 use Rattle.std.proofs.shelf.Tests.{cases-eq, cases-lt, eq-eqb, ne-eqb}
@@ -65,17 +65,25 @@ below-more b n x p = grind (arith, tells)
 below-between : (low high x : ℕ) → below low (high + 1 - low) x ≡ between low high x
 below-between low high x = grind (arith, tells)
 
-with-bytes : (n : ℕ) (t : ByteTest) (b : ℕ) → length (t .bits) ≡ 32 → b + n ≤ 256 → Adds (below b n) t (withBytes t b n)
-with-bytes zero t b e h x = below-none b x (passesByte t x)
-with-bytes (suc n) t b e h x =
-    let l : b / 8 < length (t .bits) = omega arith in
-    with-bytes n (withByte t b) (b + 1) (length-set (t .bits) (b / 8) _ ∙ e) (omega arith) x
-    ∙ ap (λ p. below (b + 1) n x || p) (with-byte t b l x)
+-- of bytes the same holds whatever is put in: what is no byte changes nothing
+pub byte-added : (t : ByteTest) (b : ℕ) → length (t .bits) ≡ 32 → (x : ℕ) → x < 256 → passesByte (withByte t b) x ≡ (eqb x b || passesByte t x)
+byte-added t b e x h =
+    ⊎-elim
+    (λ (l : b / 8 < length (t .bits)). with-byte t b l x)
+    (λ (l : length (t .bits) ≤ b / 8).
+    ap (λ bits. passesByte (record { bits = bits }) x) (set-past (t .bits) (b / 8) (bitOr (getD (t .bits) (b / 8) 0) (2 ^ (b % 8))) l)
+    ∙ ap (λ v. v || passesByte t x) (sym (ne-eqb x b (λ (k : x ≡ b). omega arith))))
+    (cases-lt (b / 8) (length (t .bits)))
+
+bytes-added : (n : ℕ) (t : ByteTest) (b : ℕ) → length (t .bits) ≡ 32 → (x : ℕ) → x < 256 → passesByte (withBytes t b n) x ≡ (below b n x || passesByte t x)
+bytes-added zero t b e x h = below-none b x (passesByte t x)
+bytes-added (suc n) t b e x h =
+    bytes-added n (withByte t b) (b + 1) (length-set (t .bits) (b / 8) _ ∙ e) x h
+    ∙ ap (λ p. below (b + 1) n x || p) (byte-added t b e x h)
     ∙ below-more b n x (passesByte t x)
 
-pub with-range : (t : ByteTest) (low high : ℕ) → length (t .bits) ≡ 32 → low < 256 → high < 256 → Adds (between low high) t (withRange t low high)
-with-range t low high e l h x =
-    with-bytes (high + 1 - low) t low e (omega arith) x ∙ ap (λ p. p || passesByte t x) (below-between low high x)
+pub range-added : (t : ByteTest) (low high : ℕ) → length (t .bits) ≡ 32 → (x : ℕ) → x < 256 → passesByte (withRange t low high) x ≡ (between low high x || passesByte t x)
+range-added t low high e x h = bytes-added (high + 1 - low) t low e x h ∙ ap (λ p. p || passesByte t x) (below-between low high x)
 
 -- a set has 32 parts, whatever is put in
 pub length-bytes : (n : ℕ) (t : ByteTest) (b : ℕ) → length (withBytes t b n .bits) ≡ length (t .bits)

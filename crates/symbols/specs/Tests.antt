@@ -1,6 +1,6 @@
 -- Which symbols pass a test.
 use Prim.Native.Nat.{ℕ, _+_, _*_, _/_, _%_, _^_}
-use mathlib.Core.Bool.{Bool, true, false, not, cond, _&&_}
+use mathlib.Core.Bool.{Bool, not, cond, _&&_}
 use lib.Dec.{eqb, leb}
 use lib.ListN.{getD}
 use Rattle.symbols.specs.declared.ByteTest.{ByteTest}

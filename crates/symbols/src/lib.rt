@@ -1,6 +1,5 @@
 // The symbols of a record, and the tests that atoms put to them.
 ghost use mathlib.Core.Path.{_≡_};
-ghost use Prim.Native.Nat.{ℕ};
 ghost use lib.Dec.{eqb};
 ghost use Rattle.symbols.specs.Tests.{passesByte, passesCode, codeOf};
 ghost use Rattle.symbols.specs.ByteSets.{noByte, withByte, withRange, others, Nothing, Adds, Inverts, between};

@@ -1,10 +1,4 @@
-use mathlib.Core.Path.{_≡_, sym, ap, _∙_}
-use mathlib.Core.Bool.{cond}
-use lib.Dec.{eqb}
-use lib.ListN.{getD}
-use Prim.Native.Nat.{_+_}
-use borrow.Author.Tests.{eq-eqb, ne-eqb}
-use Rattle.std.specs.declared.option.Option.the-variants.{Some, None}
+use mathlib.Core.Path.{sym}
 use Rattle.byte_notation.proofs.Steps.{end-two, end-plain, end-bracket, end-of-few}
 use Rattle.byte_notation.proofs.brackets.range_end.Needs as need
 use Rattle.byte_notation.proofs.brackets.range_end.Needs.{else-place-text·by·then-place-text·then-text-place-eq45·else-text-place-ne93, else-place-text·by·then-place-text·else-text-place-eq45, else-place-text·by·else-place-text}

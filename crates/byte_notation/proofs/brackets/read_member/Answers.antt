@@ -1,11 +1,5 @@
-use mathlib.Core.Path.{_≡_, sym, ap, subst, _∙_}
-use Prim.Native.Nat.{ℕ, _+_, _<_, _≤_}
-use mathlib.Core.Bool.{cond}
+use mathlib.Core.Path.{_≡_}
 use native.Mathlib.Omega.{arith}
-use borrow.Author.Needs.{needs}
-use lib.ListN.{length, getD, drop}
-use Rattle.std.specs.declared.option.Option.the-variants.{Some, None}
-use Rattle.byte_notation.specs.Brackets.{rangeEnd}
 use Rattle.byte_notation.proofs.Steps.{member-class, member-byte, member-range, member-reversed}
 use Rattle.byte_notation.proofs.brackets.read_member.Needs as need
 

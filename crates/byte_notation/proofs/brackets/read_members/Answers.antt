@@ -1,11 +1,11 @@
-use mathlib.Core.Path.{_≡_, sym, ap, _∙_}
-use Prim.Native.Nat.{_+_, _<_}
+use mathlib.Core.Path.{_≡_, sym, _∙_}
+use Prim.Native.Nat.{_+_}
 use native.Mathlib.Omega.{arith}
-use lib.ListN.{length, getD, drop}
+use lib.ListN.{getD, drop}
 use Rattle.std.proofs.shelf.Results.{err-from-errBy}
-use Rattle.byte_notation.specs.declared.brackets.State.the-variants.{Members, Closed}
-use Rattle.byte_notation.specs.Brackets.{after, members, width, withMember}
-use Rattle.byte_notation.proofs.Steps.{closes, refuses, one-more, unclosed, read-or-closed, width-positive}
+use Rattle.byte_notation.specs.declared.brackets.State.the-variants.{Members}
+use Rattle.byte_notation.specs.Brackets.{after, members, width}
+use Rattle.byte_notation.proofs.Steps.{closes, refuses, one-more, unclosed, read-or-closed}
 use Rattle.byte_notation.proofs.brackets.read_members.Needs as need
 
 pub returns-in-Closed : need.returns-in-Closed

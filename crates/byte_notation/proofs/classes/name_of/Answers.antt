@@ -1,6 +1,3 @@
-use mathlib.Core.Path.{_≡_, refl}
-use mathlib.Core.List.{[]}
-use lib.ListN.{getD}
 use Rattle.byte_notation.specs.Classes.{names}
 use Rattle.byte_notation.proofs.Eight.{eight}
 use Rattle.byte_notation.proofs.classes.name_of.Needs as need

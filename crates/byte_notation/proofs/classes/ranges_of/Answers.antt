@@ -1,6 +1,3 @@
-use mathlib.Core.Path.{_≡_, refl}
-use mathlib.Core.List.{[]}
-use lib.ListN.{getD}
 use Rattle.byte_notation.specs.Classes.{ranges}
 use Rattle.byte_notation.proofs.Eight.{eight}
 use Rattle.byte_notation.proofs.classes.ranges_of.Needs as need

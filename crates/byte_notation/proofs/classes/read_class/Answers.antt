@@ -1,5 +1,5 @@
 use mathlib.Core.Path.{_≡_, refl, sym, ap, _∙_}
-use mathlib.Core.Bool.{Bool, true, false}
+use mathlib.Core.Bool.{true, false}
 use mathlib.Core.List.{[], _++_}
 use Prim.Native.Nat.{_+_, _<_, _≤_}
 use native.Mathlib.Omega.{arith}
@@ -7,7 +7,7 @@ use borrow.Author.Needs.{needs}
 use lib.Chars.{codes}
 use lib.ListN.{length, getD, drop}
 use denote.Ref.{now}
-use Rattle.byte_notation.specs.Classes.{names, starts, classWidth}
+use Rattle.byte_notation.specs.Classes.{names, starts}
 use Rattle.byte_notation.proofs.Fronts.{class-unopened, class-here, class-more, class-none, opened-at, named-at, eight-names}
 use Rattle.byte_notation.proofs.classes.read_class.Needs as need
 

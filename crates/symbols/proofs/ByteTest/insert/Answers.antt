@@ -2,11 +2,8 @@ use mathlib.Core.Path.{_≡_, refl}
 use Prim.Native.Nat.{ℕ, _/_, _%_, _*_, _^_, _<_}
 use native.Mathlib.Omega.{arith}
 use borrow.Author.Needs.{needs}
-use lib.Bits.{bitOr}
-use lib.ListN.{length, getD, set}
+use lib.ListN.{length}
 use Rattle.std.proofs.shelf.Bits.{one-shl, mod-below}
-use Rattle.symbols.specs.declared.ByteTest.{ByteTest}
-use Rattle.symbols.specs.ByteSets.{withByte, Adds}
 use Rattle.symbols.proofs.Passing.{with-byte}
 use Rattle.symbols.proofs.ByteTest.insert.Needs as need
 

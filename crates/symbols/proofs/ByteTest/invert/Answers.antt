@@ -2,7 +2,6 @@ use mathlib.Core.Path.{_≡_, ap, _∙_}
 use native.Mathlib.Omega.{arith}
 use borrow.Author.Needs.{needs}
 use lib.ListN.{length}
-use Rattle.symbols.specs.declared.ByteTest.{ByteTest}
 use Rattle.symbols.specs.Tests.{passesByte}
 use Rattle.symbols.specs.ByteSets.{others}
 use Rattle.symbols.proofs.Passing.{turn-more, turn-all, inverts}
