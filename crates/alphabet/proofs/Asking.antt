@@ -5,11 +5,9 @@ use mathlib.Core.Bool.{Bool, true, false, cond}
 use mathlib.Core.List.{List, [], _∷_}
 use Prim.Native.Nat.{ℕ, zero, suc, _+_, _-_, _≤_, _<_}
 use native.Mathlib.Omega.{arith}
-use native.Mathlib.Numerals.{sub-one}
 use lib.Dec.{eqb}
-use lib.ListN.{length, getD, take}
+use lib.ListN.{length, getD}
 use Rattle.std.proofs.shelf.Tests.{cases-eq, eq-eqb, ne-eqb, cond-true, cond-false}
-use Rattle.std.proofs.shelf.Lists.{length-take-le, getD-take}
 use Rattle.alphabet.specs.Asked.{asked}
 
 pub asked-first : {A : Type 0} (f : A → Bool) (t : A) (ts : List A) (k : ℕ) → k ≡ 0 → asked f (t ∷ ts) (suc k) ≡ f t
@@ -37,7 +35,3 @@ asked-at f (t ∷ ts) (suc k) d l u =
     ⊎-elim (λ (e : k ≡ 0). let z : suc k - 1 ≡ 0 = omega arith in asked-first f t ts k e ∙ sym (ap (λ i. f (getD (t ∷ ts) i d)) z))
     (λ (e : k ≡ 0 → ⊥). let z : suc k - 1 ≡ suc (k - 1) = omega arith in asked-later f t ts k e ∙ asked-at f ts k d (omega arith) (omega arith) ∙ sym (ap (λ i. f (getD (t ∷ ts) i d)) z))
     (cases-eq k 0)
-
--- the test with a number, where the tests are the first n of an array
-pub asked-kept : {A : Type 0} (f : A → Bool) (ts : List A) (n k : ℕ) (d : A) → 0 < k → k ≤ n → n ≤ length ts → asked f (take n ts) k ≡ f (getD ts (k - 1) d)
-asked-kept f ts n k d l u m = asked-at f (take n ts) k d l (rw (length-take-le n ts m) u) ∙ ap f (getD-take n ts (k - 1) d (omega arith))

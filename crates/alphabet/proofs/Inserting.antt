@@ -66,11 +66,11 @@ pub ascending-cuts : (ts : List EventTest) (cs : List ℕ) → cs ≡ cuts ts �
 ascending-cuts ts cs e = rw e (by-ascending ts [] tt)
 
 -- the class of an event lies between those of its kind's lowest and highest code
-pub kind-between : (ts : List EventTest) (cs : List ℕ) (code kind value low high : ℕ) → cs ≡ cuts ts → code ≡ kind * 65536 + value → value < 65536 → low ≡ eventClass ts (kind * 65536) → high ≡ eventClass ts (kind * 65536 + 65535) → (low ≤ atOrBelow code cs) × (atOrBelow code cs ≤ high) × (high ≤ length cs)
+pub kind-between : (ts : List EventTest) (cs : List ℕ) (code kind value low high : ℕ) → cs ≡ cuts ts → code ≡ kind * 65536 + value → value < 65536 → low ≡ eventClass ts (kind * 65536 + 0) → high ≡ eventClass ts (kind * 65536 + 65535) → (low ≤ atOrBelow code cs) × (atOrBelow code cs ≤ high) × (high ≤ length cs)
 kind-between ts cs code kind value low high c e l f g =
     let h = ascending-cuts ts cs c in
-    let a = count-mono (kind * 65536) code cs h (omega arith) in
+    let a = count-mono (kind * 65536 + 0) code cs h (omega arith) in
     let b = count-mono code (kind * 65536 + 65535) cs h (omega arith) in
-    let f′ : low ≡ atOrBelow (kind * 65536) cs = f ∙ ap (atOrBelow (kind * 65536)) (sym c) in
+    let f′ : low ≡ atOrBelow (kind * 65536 + 0) cs = f ∙ ap (atOrBelow (kind * 65536 + 0)) (sym c) in
     let g′ : high ≡ atOrBelow (kind * 65536 + 65535) cs = g ∙ ap (atOrBelow (kind * 65536 + 65535)) (sym c) in
     (omega arith, omega arith, omega (arith, count-le (kind * 65536 + 65535) cs))

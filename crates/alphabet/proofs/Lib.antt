@@ -5,4 +5,5 @@ mod Eventwise
 mod First
 mod Inserting
 mod Numbering
+mod Passing
 mod Rows

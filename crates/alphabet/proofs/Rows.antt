@@ -15,10 +15,12 @@ use Rattle.std.specs.Iters.{folded}
 use Rattle.std.proofs.shelf.Tests.{and-parts, and-from, cases-bool, eq-eqb, ne-eqb}
 use Rattle.std.proofs.shelf.Sums.{folded-more}
 use Rattle.std.proofs.shelf.Bits.{pow-add}
+use Rattle.sets.specs.Positions.{holds}
+use Rattle.sets.specs.declared.positions.PositionSet.{PositionSet}
 use Rattle.symbols.specs.declared.ByteTest.{ByteTest}
 use Rattle.symbols.specs.Tests.{passesByte}
 use Rattle.alphabet.specs.Numbering.{first, howMany, smallest, leads, member}
-use Rattle.alphabet.specs.Bytes.{alike, byteClass, byteClasses, row, FirstLike}
+use Rattle.alphabet.specs.Bytes.{alike, byteClass, byteClasses, row, passedByte, FirstLike}
 use Rattle.alphabet.proofs.First.{first-is, howMany-yes, howMany-no, howMany-le}
 use Rattle.alphabet.proofs.Numbering.{smallest-like, class-same, class-leads, member-is}
 use Rattle.alphabet.proofs.Bytewise.{alike-equivalence, beq-eq}
@@ -73,40 +75,46 @@ smallest-is ts rows b r h l k =
       has = λ _. rows-apart ts b r 0 0 (sym (h b l) ∙ sym (k .like) ∙ h r (omega (arith, k .low))) .1;
     })
 
+abbrev pub blank : PositionSet
+blank = record { bits = 0 }
+
 -- the table after the bytes below b
-abbrev pub Upto : List ByteTest → ℕ → ℕ → List ℕ → List ℕ → Type 0
-Upto ts b n class smallests =
+abbrev pub Upto : List ByteTest → ℕ → ℕ → List ℕ → List PositionSet → Type 0
+Upto ts b n class passing =
     (n ≡ howMany (leads (alike ts)) b)
     × ((x : ℕ) → x < b → getD class x 0 ≡ byteClass ts x)
-    × ((c : ℕ) → c < n → getD smallests c 0 ≡ member (alike ts) 256 c)
+    × ((c : ℕ) → c < n → holds (getD passing c blank) ≡ passedByte ts (member (alike ts) 256 c))
 
 -- what the loop over the bytes keeps
-abbrev pub Filled : List ByteTest → ℕ → ℕ → List ℕ → List ℕ → Type 0
-Filled ts b n class smallests = (length class ≡ 256) × (length smallests ≡ 256) × (n ≤ b) × Upto ts b n class smallests
+abbrev pub Filled : List ByteTest → ℕ → ℕ → List ℕ → List PositionSet → Type 0
+Filled ts b n class passing = (length class ≡ 256) × (length passing ≡ 256) × (n ≤ b) × Upto ts b n class passing
 
-pub filled-at : (ts : List ByteTest) (b n n′ : ℕ) (class class′ smallests smallests′ : List ℕ) → class′ ≡ class → smallests′ ≡ smallests → n′ ≡ n → Filled ts b n class smallests → Filled ts b n′ class′ smallests′
-filled-at ts b n n′ class class′ smallests smallests′ e f g h = rw (e, f, g) h
+pub filled-at : (ts : List ByteTest) (b n n′ : ℕ) (class class′ : List ℕ) (passing passing′ : List PositionSet) → class′ ≡ class → passing′ ≡ passing → n′ ≡ n → Filled ts b n class passing → Filled ts b n′ class′ passing′
+filled-at ts b n n′ class class′ passing passing′ e f g h = rw (e, f, g) h
 
 -- a write at i leaves what stands below, and puts v at i
+pub below-kept : {X : Type 0} (P : ℕ → X → Type 0) (xs : List X) (i : ℕ) (v d : X) → i < length xs → ((k : ℕ) → k < i → P k (getD xs k d)) → P i v → (k : ℕ) → k < i + 1 → P k (getD (set xs i v) k d)
+below-kept P xs i v d l h e =
+    below-more (λ k. P k (getD (set xs i v) k d)) i (λ k u. let ne : k ≢ i = omega arith in rw getD-set-other (h k u)) (rw getD-set-same e)
+
 pub below-set : (f : ℕ → ℕ) (xs : List ℕ) (i v : ℕ) → i < length xs → ((k : ℕ) → k < i → getD xs k 0 ≡ f k) → v ≡ f i → (k : ℕ) → k < i + 1 → getD (set xs i v) k 0 ≡ f k
-below-set f xs i v l h e =
-    below-more (λ k. getD (set xs i v) k 0 ≡ f k) i (λ k u. let ne : k ≢ i = omega arith in rw getD-set-other (h k u)) (rw getD-set-same e)
+below-set f xs i v l h e = below-kept (λ k x. x ≡ f k) xs i v 0 l h e
 
 -- a byte that leads begins a class
-upto-new : (ts : List ByteTest) (b n : ℕ) (class smallests : List ℕ) → b < 256 → length class ≡ 256 → length smallests ≡ 256 → smallest (alike ts) b ≡ b → Upto ts b n class smallests → Upto ts (b + 1) (n + 1) (set class b n) (set smallests n b)
-upto-new ts b n class smallests l m m′ e h =
+upto-new : (ts : List ByteTest) (b n : ℕ) (s : PositionSet) (class : List ℕ) (passing : List PositionSet) → b < 256 → length class ≡ 256 → length passing ≡ 256 → smallest (alike ts) b ≡ b → holds s ≡ passedByte ts b → Upto ts b n class passing → Upto ts (b + 1) (n + 1) (set class b n) (set passing n s)
+upto-new ts b n s class passing l m m′ e g h =
     let eq = alike-equivalence ts in
     let leads-b : leads (alike ts) b ≡ true = eq-eqb (smallest (alike ts) b) b e in
     let low : howMany (leads (alike ts)) b ≤ b = howMany-le (leads (alike ts)) b in
     let c = h .0 in (
       ap (λ k. k + 1) c ∙ sym (ap (howMany (leads (alike ts))) (add-one b) ∙ howMany-yes (leads (alike ts)) b leads-b),
       below-set (byteClass ts) class b n (omega arith) (h .1) (c ∙ sym (class-leads (alike ts) b leads-b)),
-      below-set (member (alike ts) 256) smallests n b (omega arith) (h .2) (sym (member-is (alike ts) eq 256 b n l leads-b (sym c))),
+      below-kept (λ k x. holds x ≡ passedByte ts (member (alike ts) 256 k)) passing n s blank (omega arith) (h .2) (g ∙ ap (passedByte ts) (sym (member-is (alike ts) eq 256 b n l leads-b (sym c)))),
     )
 
 -- another byte has the class of the smallest byte like it
-upto-old : (ts : List ByteTest) (b n r v : ℕ) (class smallests : List ℕ) → b < 256 → length class ≡ 256 → smallest (alike ts) b ≡ r → r < b → v ≡ getD class r 0 → Upto ts b n class smallests → Upto ts (b + 1) n (set class b v) smallests
-upto-old ts b n r v class smallests l m e u z h =
+upto-old : (ts : List ByteTest) (b n r v : ℕ) (class : List ℕ) (passing : List PositionSet) → b < 256 → length class ≡ 256 → smallest (alike ts) b ≡ r → r < b → v ≡ getD class r 0 → Upto ts b n class passing → Upto ts (b + 1) n (set class b v) passing
+upto-old ts b n r v class passing l m e u z h =
     let eq = alike-equivalence ts in
     let follows : leads (alike ts) b ≡ false = ne-eqb (smallest (alike ts) b) b (λ same. omega arith) in
     let like : alike ts b r ≡ true = ap (alike ts b) (sym e) ∙ smallest-like (alike ts) eq b in (
@@ -115,15 +123,15 @@ upto-old ts b n r v class smallests l m e u z h =
       h .2,
     )
 
-pub filled-new : (ts : List ByteTest) (rows : List ℕ) (b n r : ℕ) (class smallests : List ℕ) → ((x : ℕ) → x < 256 → getD rows x 0 ≡ row ts x) → b < 256 → FirstLike rows b r → r ≡ b → Filled ts b n class smallests → Filled ts (b + 1) (n + 1) (set class b n) (set smallests n b)
-filled-new ts rows b n r class smallests k l f e h =
-    (length-set class b n ∙ h .0, length-set smallests n b ∙ h .1, omega (arith, h .2), upto-new ts b n class smallests l (h .0) (h .1) (smallest-is ts rows b r k l f ∙ e) (h .3))
+pub filled-new : (ts : List ByteTest) (rows : List ℕ) (b n r : ℕ) (s : PositionSet) (class : List ℕ) (passing : List PositionSet) → ((x : ℕ) → x < 256 → getD rows x 0 ≡ row ts x) → b < 256 → FirstLike rows b r → r ≡ b → holds s ≡ passedByte ts b → Filled ts b n class passing → Filled ts (b + 1) (n + 1) (set class b n) (set passing n s)
+filled-new ts rows b n r s class passing k l f e g h =
+    (length-set class b n ∙ h .0, length-set passing n s ∙ h .1, omega (arith, h .2), upto-new ts b n s class passing l (h .0) (h .1) (smallest-is ts rows b r k l f ∙ e) g (h .3))
 
-pub filled-old : (ts : List ByteTest) (rows : List ℕ) (b n r v : ℕ) (class smallests : List ℕ) → ((x : ℕ) → x < 256 → getD rows x 0 ≡ row ts x) → b < 256 → FirstLike rows b r → (r ≡ b → ⊥) → v ≡ getD class r 0 → Filled ts b n class smallests → Filled ts (b + 1) n (set class b v) smallests
-filled-old ts rows b n r v class smallests k l f d e h =
-    (length-set class b v ∙ h .0, h .1, omega (arith, h .2), upto-old ts b n r v class smallests l (h .0) (smallest-is ts rows b r k l f) (omega (arith, f .low)) e (h .3))
+pub filled-old : (ts : List ByteTest) (rows : List ℕ) (b n r v : ℕ) (class : List ℕ) (passing : List PositionSet) → ((x : ℕ) → x < 256 → getD rows x 0 ≡ row ts x) → b < 256 → FirstLike rows b r → (r ≡ b → ⊥) → v ≡ getD class r 0 → Filled ts b n class passing → Filled ts (b + 1) n (set class b v) passing
+filled-old ts rows b n r v class passing k l f d e h =
+    (length-set class b v ∙ h .0, h .1, omega (arith, h .2), upto-old ts b n r v class passing l (h .0) (smallest-is ts rows b r k l f) (omega (arith, f .low)) e (h .3))
 
-pub filled-all : (ts : List ByteTest) (b n : ℕ) (class smallests : List ℕ) → b ≡ 256 → Filled ts b n class smallests → (n ≡ byteClasses ts) × ((x : ℕ) → x < 256 → getD class x 0 ≡ byteClass ts x) × ((c : ℕ) → c < byteClasses ts → getD smallests c 0 ≡ member (alike ts) 256 c)
-filled-all ts b n class smallests e h =
+pub filled-all : (ts : List ByteTest) (b n : ℕ) (class : List ℕ) (passing : List PositionSet) → b ≡ 256 → Filled ts b n class passing → (n ≡ byteClasses ts) × ((x : ℕ) → x < 256 → getD class x 0 ≡ byteClass ts x) × ((c k : ℕ) → c < byteClasses ts → holds (getD passing c blank) k ≡ passedByte ts (member (alike ts) 256 c) k)
+filled-all ts b n class passing e h =
     let z : n ≡ byteClasses ts = h .3 .0 ∙ ap (howMany (leads (alike ts))) e in
-    (z, (λ x u. h .3 .1 x (omega arith)), (λ c u. h .3 .2 c (omega (arith, z))))
+    (z, (λ x u. h .3 .1 x (omega arith)), (λ c k u. ap (λ f. f k) (h .3 .2 c (omega (arith, z)))))

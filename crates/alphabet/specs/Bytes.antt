@@ -5,6 +5,8 @@ use mathlib.Core.Bool.{Bool, true, false, _&&_, cond, Bool·beq}
 use mathlib.Core.List.{List, [], _∷_}
 use lib.Dec.{ltb}
 use lib.ListN.{getD}
+use Rattle.sets.specs.Members.{Members, shared, below}
+use Rattle.sets.specs.Positions.{holds, width}
 use Rattle.symbols.specs.declared.ByteTest.{ByteTest}
 use Rattle.symbols.specs.Tests.{passesByte}
 use Rattle.std.specs.Iters.{folded}
@@ -31,12 +33,21 @@ byteClass ts b = classOf (alike ts) b
 abbrev pub byteAccepts : List ByteTest → ℕ → ℕ → Bool
 byteAccepts ts c k = ltb c (byteClasses ts) && bytePasses ts k (member (alike ts) 256 c)
 
--- the table is right: the number of classes, the class of each byte, the smallest byte of each class
+-- the tests that a byte passes, as a set
+abbrev pub byteAnswers : List ByteTest → ℕ → Members
+byteAnswers ts b = asked (λ t. passesByte t b) ts
+
+-- as far as a set of positions can hold them
+abbrev pub passedByte : List ByteTest → ℕ → Members
+passedByte ts b = shared (below width) (byteAnswers ts b)
+
+-- the table has the number of classes and the class of each byte
 abbrev pub Tabled : List ByteTest → ByteTable → Type 0
-Tabled ts table =
-    (table .classes ≡ byteClasses ts)
-    × ((b : ℕ) → b < 256 → getD (table .class) b 0 ≡ byteClass ts b)
-    × ((c : ℕ) → c < byteClasses ts → getD (table .smallest) c 0 ≡ member (alike ts) 256 c)
+Tabled ts table = (table .classes ≡ byteClasses ts) × ((b : ℕ) → b < 256 → getD (table .class) b 0 ≡ byteClass ts b)
+
+-- it has the tests that each class passes
+abbrev pub Told : List ByteTest → ByteTable → Type 0
+Told ts table = (c k : ℕ) → c < byteClasses ts → holds (getD (table .passing) c (record { bits = 0 })) k ≡ passedByte ts (member (alike ts) 256 c) k
 
 -- the answers of the tests to a byte, as the digits of a number to the base 2
 abbrev pub row : List ByteTest → ℕ → ℕ

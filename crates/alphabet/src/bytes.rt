@@ -2,7 +2,7 @@
 // and the classes are numbered by their smallest bytes.
 ghost use Prim.Native.Nat.{_≤_};
 ghost use lib.ListN.{take};
-ghost use Rattle.alphabet.specs.Bytes.{Tabled};
+ghost use Rattle.alphabet.specs.Bytes.{Tabled, Told};
 
 mod answers;
 mod table;
@@ -18,4 +18,5 @@ pub struct ByteClasses {
     table: ByteTable,
     ghost few: { used ≤ 63 },
     ghost right: { Tabled (take used tests) table },
+    ghost told: { Told (take used tests) table },
 }

@@ -2,7 +2,7 @@
 // moments are not looked at.
 ghost use Prim.Native.Nat.{_≤_};
 ghost use lib.ListN.{take};
-ghost use Rattle.alphabet.specs.Events.{CutRight};
+ghost use Rattle.alphabet.specs.Events.{CutRight, CutTold};
 
 mod answers;
 mod table;
@@ -18,4 +18,5 @@ pub struct EventCuts {
     table: CutTable,
     ghost few: { used ≤ 63 },
     ghost right: { CutRight (take used tests) table },
+    ghost told: { CutTold (take used tests) table },
 }

@@ -4,6 +4,8 @@ ghost use mathlib.Core.Path.{_≡_};
 ghost use mathlib.Core.Bool.{Bool, true, false};
 ghost use mathlib.Core.Logic.{_⊎_};
 ghost use Prim.Native.Nat.{ℕ, _<_, _≤_};
+ghost use Rattle.sets.specs.Members.{shared, below};
+ghost use Rattle.sets.specs.Positions.{holds, width};
 
 mod bytes;
 mod events;
@@ -13,6 +15,7 @@ pub use bytes::ByteAlphabet;
 pub use bytes::ByteClasses;
 pub use events::EventAlphabet;
 pub use events::EventCuts;
+use sets::PositionSet;
 
 pub trait Alphabet {
     type Symbol: Copy;
@@ -54,6 +57,19 @@ pub trait Alphabet {
 
     fn class_passes(&self, class: u16, test: u8) -> bool
         ensures { λ r. ⌜ r ≡ accepts (now (self .entry)) class test ⌝ };
+
+    // The tests that a class passes, as the positions of their atoms. An alphabet may keep them at hand.
+    fn passing(&self, class: u16) -> PositionSet
+        ensures { λ r. ⌜ holds r ≡ shared (below width) (accepts (now (self .entry)) class) ⌝ }
+    {
+        let mut tests = PositionSet::empty();
+        for test in 0..64u8 {
+            if self.class_passes(class, test) {
+                tests = tests.with(test);
+            }
+        }
+        tests
+    }
 }
 
 // Whether a symbol passes a test, asked of its class alone.

@@ -9,6 +9,7 @@ use crate::Alphabet;
 use crate::bytes::ByteClasses;
 use crate::bytes::table;
 use crate::kept::keep;
+use sets::PositionSet;
 use symbols::ByteTest;
 
 impl ByteClasses {
@@ -25,15 +26,6 @@ impl ByteClasses {
             used,
             table,
         }
-    }
-
-    fn byte_passes(&self, byte: u8, test: u8) -> bool
-        ensures { λ r. ⌜ r ≡ bytePasses (byteTests (now (self .entry))) test byte ⌝ }
-    {
-        if test == 0 || test as usize > self.used {
-            return false;
-        }
-        self.tests[test as usize - 1].passes(byte)
     }
 }
 
@@ -61,6 +53,14 @@ pub impl Alphabet for ByteClasses as ByteAlphabet {
     }
 
     fn class_passes(&self, class: u16, test: u8) -> bool {
-        class < self.class_count() && self.byte_passes(self.table.smallest[class as usize], test)
+        self.passing(class).has(test)
+    }
+
+    fn passing(&self, class: u16) -> PositionSet {
+        if class < self.class_count() {
+            self.table.passing[class as usize]
+        } else {
+            PositionSet::empty()
+        }
     }
 }

@@ -5,12 +5,13 @@ ghost use Prim.Native.Nat.{ℕ, _<_, _≤_};
 ghost use lib.Dec.{ltb};
 ghost use lib.ListN.{length, take};
 ghost use Rattle.symbols.specs.Tests.{codeOf};
-ghost use Rattle.alphabet.specs.Events.{cuts, lowestCode, eventPasses, eventClasses, eventClass, eventAccepts, Cut};
+ghost use Rattle.alphabet.specs.Events.{eventPasses, eventClasses, eventClass, eventAccepts, Cut};
 ghost use Rattle.alphabet.specs.Own.{eventTests};
 use crate::Alphabet;
 use crate::events::EventCuts;
 use crate::events::table;
 use crate::kept::keep;
+use sets::PositionSet;
 use symbols::Event;
 use symbols::EventTest;
 
@@ -32,27 +33,6 @@ impl EventCuts {
             used,
             table,
         }
-    }
-
-    // The lowest code of a class that is there.
-    fn lowest_code(&self, class: u16) -> u32
-        requires { ⌜ class < eventClasses (eventTests (now self)) ⌝ }
-        ensures { λ r. ⌜ r ≡ lowestCode (cuts (eventTests (now (self .entry)))) class ⌝ }
-    {
-        if class == 0 {
-            0
-        } else {
-            self.table.codes[class as usize - 1]
-        }
-    }
-
-    fn code_passes(&self, code: u32, test: u8) -> bool
-        ensures { λ r. ⌜ r ≡ eventPasses (eventTests (now (self .entry))) test code ⌝ }
-    {
-        if test == 0 || test as usize > self.used {
-            return false;
-        }
-        self.tests[test as usize - 1].passes_code(code)
     }
 }
 
@@ -84,6 +64,14 @@ pub impl Alphabet for EventCuts as EventAlphabet {
     }
 
     fn class_passes(&self, class: u16, test: u8) -> bool {
-        class < self.class_count() && self.code_passes(self.lowest_code(class), test)
+        self.passing(class).has(test)
+    }
+
+    fn passing(&self, class: u16) -> PositionSet {
+        if class < self.class_count() {
+            self.table.passing[class as usize]
+        } else {
+            PositionSet::empty()
+        }
     }
 }

@@ -2,17 +2,20 @@
 ghost use mathlib.Core.Path.{_≡_};
 ghost use Prim.Native.Nat.{ℕ, _+_, _*_, _<_, _≤_};
 ghost use lib.ListN.{length, take, getD};
-ghost use Rattle.alphabet.specs.Events.{placed, cut, cutBy, cuts, atOrBelow, Ascending, CutRight};
+ghost use Rattle.sets.specs.Positions.{holds};
+ghost use Rattle.alphabet.specs.Events.{placed, cut, cuts, atOrBelow, lowestCode, passedCode, Ascending, CutRight, CutTold};
+use sets::PositionSet;
 use symbols::EventTest;
 
 // The first `count` of `codes` are the cuts; for each kind, the classes of its lowest and of its highest code,
-// between which the classes of its events lie.
+// between which the classes of its events lie; and the tests that each class passes.
 #[derive(Clone, Copy)]
 pub struct CutTable {
     pub count: usize,
     pub codes: [u32; 126],
     pub lowest: [u8; 256],
     pub highest: [u8; 256],
+    pub passing: [PositionSet; 127],
 }
 
 // How many of the ascending cuts are at or below the code, which is a number between `low` and `high`.
@@ -101,23 +104,63 @@ fn cut_by(codes: &mut [u32], tests: &[EventTest]) -> usize
     count
 }
 
+// The tests that events with the code pass.
+fn passed_by(tests: &[EventTest], code: u32) -> PositionSet
+    requires { ⌜ length (now tests) ≤ 63 ⌝ }
+    ensures { λ r. ⌜ holds r ≡ passedCode (now (tests .entry)) code ⌝ }
+{
+    let mut passed = PositionSet::empty();
+    for (i, test) in tests.iter().enumerate() {
+        if test.passes_code(code) {
+            passed = passed.with(i as u8 + 1);
+        }
+    }
+    passed
+}
+
+// What each class passes, by its lowest code.
+fn passed(tests: &[EventTest], cuts: &[u32]) -> [PositionSet; 127]
+    requires few { ⌜ length (now tests) ≤ 63 ⌝ }
+    requires short { ⌜ length (now cuts) ≤ 126 ⌝ }
+    ensures { λ r. ⌜ ((c k : ℕ) → c < length (now (cuts .entry)) + 1 → holds (getD r c (record { bits = 0 })) k ≡ passedCode (now (tests .entry)) (lowestCode (now (cuts .entry)) c) k) ⌝ }
+{
+    let mut passing = [passed_by(tests, 0); 127];
+    for i in 0..cuts.len() {
+        passing[i + 1] = passed_by(tests, cuts[i]);
+    }
+    passing
+}
+
+// For each kind, the class of its events with the value.
+fn ranks(cuts: &[u32], value: u32) -> [u8; 256]
+    requires ascending { ⌜ Ascending (now cuts) ⌝ }
+    requires short { ⌜ length (now cuts) ≤ 126 ⌝ }
+    requires low { ⌜ value < 65536 ⌝ }
+    ensures { λ r. ⌜ ((k : ℕ) → k < 256 → getD r k 0 ≡ atOrBelow (k * 65536 + value) (now (cuts .entry))) ⌝ }
+{
+    let mut ranks = [0; 256];
+    for kind in 0..256u32 {
+        ranks[kind as usize] = rank(cuts, kind * 65_536 + value) as u8;
+    }
+    ranks
+}
+
 pub fn tabulate(tests: &[EventTest]) -> CutTable
     requires { ⌜ length (now tests) ≤ 63 ⌝ }
-    ensures { λ r. ⌜ CutRight (now (tests .entry)) r ⌝ }
+    ensures cuts { λ r. ⌜ CutRight (now (tests .entry)) r ⌝ }
+    ensures passing { λ r. ⌜ CutTold (now (tests .entry)) r ⌝ }
 {
     let mut codes = [0; 126];
     let count = cut_by(&mut codes, tests);
-    let mut lowest = [0u8; 256];
-    let mut highest = [0u8; 256];
-    for kind in 0..256u32 {
-        let code = kind * 65_536;
-        lowest[kind as usize] = rank(&codes[..count], code) as u8;
-        highest[kind as usize] = rank(&codes[..count], code + 65_535) as u8;
-    }
+    let cuts = &codes[..count];
+    let lowest = ranks(cuts, 0);
+    let highest = ranks(cuts, 65_535);
+    let passing = passed(tests, cuts);
     CutTable {
         count,
         codes,
         lowest,
         highest,
+        passing,
     }
 }

@@ -17,13 +17,14 @@ loop-byte-again c =
     let like = c .first-like-like in
     elim (c .if-like-byte .came) [
       | then-like-byte w ↦
-          filled-at ts (l .byte + 1) (l .classes + 1) _ _ _ _ _ (w .class-is) (w .smallest-is) (w .classes-is)
-          (filled-new ts (rows .result) (l .byte) (l .classes) (like .result) (l .class) (l .smallest) (rows .ensures) (c .loop-byte-test .taken) (like .ensures) (w .if-like-byte .taken) (l .inv))
+          filled-at ts (l .byte + 1) (l .classes + 1) _ _ _ _ _ (w .class-is) (w .passing-is) (w .classes-is)
+          (filled-new ts (rows .result) (l .byte) (l .classes) (like .result) (w .passed-by .result) (l .class) (l .passing) (rows .ensures) (c .loop-byte-test .taken) (like .ensures) (w .if-like-byte .taken) (w .passed-by .ensures) (l .inv))
       | else-like-byte w ↦
-          filled-at ts (l .byte + 1) (l .classes) _ _ _ _ _ (w .class-is) (w .smallest-is) (w .classes-is)
-          (filled-old ts (rows .result) (l .byte) (l .classes) (like .result) _ (l .class) (l .smallest) (rows .ensures) (c .loop-byte-test .taken) (like .ensures) (w .if-like-byte .left) refl (l .inv))
+          filled-at ts (l .byte + 1) (l .classes) _ _ _ _ _ (w .class-is) (w .passing-is) (w .classes-is)
+          (filled-old ts (rows .result) (l .byte) (l .classes) (like .result) _ (l .class) (l .passing) (rows .ensures) (c .loop-byte-test .taken) (like .ensures) (w .if-like-byte .left) refl (l .inv))
     ]
 
 pub returns : need.returns
 returns c =
-    filled-all (c .args .tests .now) (c .loop-byte .byte) (c .loop-byte .classes) (c .loop-byte .class) (c .loop-byte .smallest) (omega arith) (c .loop-byte .inv)
+    let h = filled-all (c .args .tests .now) (c .loop-byte .byte) (c .loop-byte .classes) (c .loop-byte .class) (c .loop-byte .passing) (omega arith) (c .loop-byte .inv) in
+    record { classes = (h .0, h .1); passing = h .2 }

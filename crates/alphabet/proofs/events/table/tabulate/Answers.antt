@@ -1,35 +1,46 @@
-use mathlib.Core.Path.{_≡_, sym, ap, _∙_}
+use mathlib.Core.Path.{_≡_, sym, ap, subst, _∙_}
+use mathlib.Core.List.{List}
 use native.Mathlib.Omega.{arith}
-use Prim.Native.Nat.{_+_, _*_}
-use lib.ListN.{length, take, length-set}
-use Rattle.std.proofs.shelf.Lists.{length-take-le}
-use Rattle.alphabet.specs.Events.{cuts, atOrBelow, eventClass}
-use Rattle.alphabet.proofs.Rows.{below-set}
+use Prim.Native.Nat.{ℕ, _+_, _*_, _<_}
+use lib.ListN.{length, getD, take}
+use Rattle.std.proofs.shelf.Lists.{length-take, length-take-le}
+use Rattle.sets.specs.Positions.{holds}
+use Rattle.sets.specs.declared.positions.PositionSet.{PositionSet}
+use Rattle.symbols.specs.declared.EventTest.{EventTest}
+use Rattle.alphabet.specs.Events.{cuts, atOrBelow, lowestCode, passedCode}
+use Rattle.alphabet.proofs.Rows.{blank}
 use Rattle.alphabet.proofs.Inserting.{ascending-cuts}
 use Rattle.alphabet.proofs.events.table.tabulate.Needs as need
 
-pub rank-requires : need.rank-requires
-rank-requires c κs = ascending-cuts (c .args .tests .now) _ (c .cut-by-count .ensures .is)
+-- what is told of the cuts in hand is told of the cuts of the tests
+told : (ts : List EventTest) (cs ds : List ℕ) (passing : List PositionSet) → cs ≡ ds → ((c k : ℕ) → c < length cs + 1 → holds (getD passing c blank) k ≡ passedCode ts (lowestCode cs c) k) → (c k : ℕ) → c < length ds + 1 → holds (getD passing c blank) k ≡ passedCode ts (lowestCode ds c) k
+told ts cs ds passing e h = rw e at h
 
-pub rank-requires-in-loop-kind : need.rank-requires-in-loop-kind
-rank-requires-in-loop-kind c κs = ascending-cuts (c .args .tests .now) _ (c .cut-by-count .ensures .is)
+pub ranks-lowest-requires : need.ranks-lowest-requires
+ranks-lowest-requires c κs = record {
+  ascending = ascending-cuts (c .args .tests .now) _ (c .cut-by-count .ensures .is);
+  short = omega (arith, length-take (c .cut-by-count .result) (c .cut-by-count .last .codes));
+  low = omega arith;
+}
 
-pub loop-kind-again : need.loop-kind-again
-loop-kind-again c =
-    let ts = c .args .tests .now in
-    let l = c .loop-kind in (
-      length-set (l .lowest) (l .kind) (c .rank .result) ∙ l .inv .0,
-      length-set (l .highest) (l .kind) (c .rank-in-loop-kind .result) ∙ l .inv .1,
-      below-set (λ k. eventClass ts (k * 65536)) (l .lowest) (l .kind) (c .rank .result) (omega arith) (l .inv .2) (c .rank .ensures .is ∙ ap (atOrBelow (l .kind * 65536)) (c .cut-by-count .ensures .is)),
-      below-set (λ k. eventClass ts (k * 65536 + 65535)) (l .highest) (l .kind) (c .rank-in-loop-kind .result) (omega arith) (l .inv .3)
-          (c .rank-in-loop-kind .ensures .is ∙ ap (atOrBelow (l .kind * 65536 + 65535)) (c .cut-by-count .ensures .is)),
-    )
+pub ranks-highest-requires : need.ranks-highest-requires
+ranks-highest-requires c κs = record {
+  ascending = ascending-cuts (c .args .tests .now) _ (c .cut-by-count .ensures .is);
+  short = omega (arith, length-take (c .cut-by-count .result) (c .cut-by-count .last .codes));
+  low = omega arith;
+}
 
 pub returns : need.returns
-returns c = (
-  c .cut-by-count .ensures .few,
-  sym (length-take-le (c .cut-by-count .result) (c .cut-by-count .last .codes) (omega arith)) ∙ ap length (c .cut-by-count .ensures .is),
-  c .cut-by-count .ensures .is,
-  (λ k u. c .loop-kind .inv .2 k (omega arith)),
-  (λ k u. c .loop-kind .inv .3 k (omega arith)),
-)
+returns c =
+    let n = c .cut-by-count in
+    let ts = c .args .tests .now in
+    record {
+      cuts = (
+        n .ensures .few,
+        sym (length-take-le (n .result) (n .last .codes) (omega arith)) ∙ ap length (n .ensures .is),
+        n .ensures .is,
+        (λ k l. c .ranks-lowest .ensures k l ∙ ap (atOrBelow (k * 65536 + 0)) (n .ensures .is)),
+        (λ k l. c .ranks-highest .ensures k l ∙ ap (atOrBelow (k * 65536 + 65535)) (n .ensures .is)),
+      );
+      passing = told ts (take (n .result) (n .last .codes)) (cuts ts) (c .passed-passing .result) (n .ensures .is) (c .passed-passing .ensures);
+    }
