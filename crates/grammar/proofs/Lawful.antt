@@ -16,7 +16,7 @@ use Rattle.grammar.proofs.Treed.{tree-of}
 pub accepted-so : (xs : List Placed) (len : ℕ) (cs : List Code) → parse xs len ≡ accepted cs → Accepted xs cs
 accepted-so xs len cs e =
     let p = accepted-is 32 len xs cs e in
-    record { pattern = p; only = λ n ds q. one-list n 32 xs ds cs q p; tree = tree-of 32 xs cs p }
+    record { pattern = p; only = λ n ds q. one-list n 32 xs ds cs q p; treed = tree-of 32 xs cs p }
 
 pub refused-so : (xs : List Placed) (len : ℕ) (k : Cause) (p : ℕ) → parse xs len ≡ refused k p → Refused xs len k p
 refused-so xs len k p e = record { none = λ cs q. clash k p cs (sym e ∙ complete len q); met = first-met xs len k p e }

@@ -1,3 +1,4 @@
+pub mod Built
 pub mod Complete
 pub mod First
 pub mod Lawful

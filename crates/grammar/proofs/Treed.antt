@@ -7,13 +7,15 @@ use Rattle.items.specs.declared.Item.{Item}
 use Rattle.items.specs.declared.Sign.{Sign}
 use Rattle.items.specs.declared.Placed.{Placed}
 use Rattle.pattern.specs.declared.Code.{Code}
+use Rattle.grammar.specs.Law.{Shaped}
+use Rattle.grammar.proofs.Built.{built-by, same-tree}
 use Rattle.grammar.specs.Grammar.{at, atoms, Pattern, Chain, Repeat, Single}
 use Rattle.grammar.specs.Grammar.Pattern.{chain, choice}
 use Rattle.grammar.specs.Grammar.Chain.{repeat, join}
 use Rattle.grammar.specs.Grammar.Repeat.{unit, star, plus, maybe}
 use Rattle.grammar.specs.Grammar.Single.{atom, group}
 use Rattle.pattern.specs.Tree.{Tree}
-use Rattle.pattern.specs.Codes.{codesOf, Numbered, TreeOf, count}
+use Rattle.pattern.specs.Codes.{codesOf, Numbered, count}
 
 -- a tree from the number k on
 record Treed (k : ℕ) (w : List Placed) (c : List Code) : Type 0 where
@@ -69,5 +71,7 @@ mutual
       let x = pattern-tree r k in
       record { tree = x .tree; codes = x .codes; numbered = x .numbered; number = omega (arith, x .number, atoms-append w (at (Item.Sign Sign.Close) q ∷ [])) }
 
-pub tree-of : (n : ℕ) (w : List Placed) (c : List Code) → Pattern n w c → (t : Tree) × TreeOf c t × (count t ≡ atoms w)
-tree-of n w c r = let x = pattern-tree r 1 in (x .tree, (x .codes, x .numbered), x .number)
+pub tree-of : (n : ℕ) (w : List Placed) (c : List Code) → Pattern n w c → Shaped c (atoms w)
+tree-of n w c r =
+    let x = pattern-tree r 1 in
+    record { shape = x .tree; shaped = (x .codes, x .numbered); built = built-by (x .codes, x .numbered); atoms = x .number; sole = λ t h. same-tree h (x .codes, x .numbered) }

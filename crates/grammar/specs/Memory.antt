@@ -18,10 +18,10 @@ use Rattle.grammar.specs.declared.parser.Parser.{Parser}
 use Rattle.grammar.specs.Parse.{State, Step, framed, state, ends}
 use Rattle.grammar.specs.Parse.Step.{go, wrong}
 
--- the codes are written behind those that were there
-pub record Wrote (before after : Collector Code) (cs : List Code) : Type 0 where
-  pub codes : held after ≡ held before ++ cs
-  pub count : after .used ≡ before .used + length cs
+-- the entries are written behind those that were there
+pub record Wrote {A : Type 0} (before after : Collector A) (xs : List A) : Type 0 where
+  pub entries : held after ≡ held before ++ xs
+  pub count : after .used ≡ before .used + length xs
   pub same-size : size after ≡ size before
   pub lender : name (after .entries) ≡ name (before .entries)
 

@@ -22,7 +22,7 @@ returns c =
     record {
       meaning = wanted (p .frame .repeats) (closed (32 - d) cs (below (p .around) d)) (sym (c .if-is-empty .ensures tt))
           ∙ closed-is d cs (p .around) (omega (arith, c .if-self-eq0 .left)) (c .pre .shallow)
-          ∙ ap (λ z. go (state (32 - (d - 1)) z (getD (p .around) (d - 1) (framed false Empty)) (below (p .around) (d - 1)))) (sym (w .codes));
+          ∙ ap (λ z. go (state (32 - (d - 1)) z (getD (p .around) (d - 1) (framed false Empty)) (below (p .around) (d - 1)))) (sym (w .entries));
       shallow = more;
       within = omega (arith, c .pre .room, w .count, w .same-size);
       same-size = w .same-size;

@@ -18,7 +18,7 @@ returns c =
     let inside : c .args .self .now .depth < length (c .args .self .now .around) = omega arith in
     record {
       meaning = opened-is d (held (c .args .codes .now)) (p .frame) (p .around) lt inside
-          ∙ (λ i. go (state (32 - (d + 1)) (sym (w .codes) i) (sym (c .fresh-self .ensures) i) (below (set (p .around) d (sym (c .grow .ensures) i)) (d + 1))));
+          ∙ (λ i. go (state (32 - (d + 1)) (sym (w .entries) i) (sym (c .fresh-self .ensures) i) (below (set (p .around) d (sym (c .grow .ensures) i)) (d + 1))));
       shallow = omega (arith, lt);
       within = omega (arith, c .pre .room, w .count, w .same-size);
       same-size = w .same-size;

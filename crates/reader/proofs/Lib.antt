@@ -1,0 +1,5 @@
+pub mod Tables
+pub mod Counts
+pub mod Rows
+pub mod Taking
+pub mod Understood

@@ -1,0 +1,5 @@
+pub mod Rows
+pub mod Drafts
+pub mod Reading
+pub mod Law
+pub mod Steps
