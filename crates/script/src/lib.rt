@@ -3,4 +3,5 @@ pub mod command;
 pub mod hex;
 pub mod number;
 pub mod sheet;
+pub mod symbol;
 pub mod words;
