@@ -3,3 +3,4 @@ pub mod Drafts
 pub mod Reading
 pub mod Law
 pub mod Steps
+pub mod Trials
