@@ -1,0 +1,26 @@
+-- The dense rows, one of n places for each of the first w classes. A byte that names no place is no step, and bytes behind these rows say nothing.
+use Prim.Native.Nat.{ℕ, zero, suc, _+_, _*_, _/_}
+use mathlib.Core.Bool.{Bool, true, false, cond, _&&_}
+use mathlib.Core.List.{List}
+use lib.Dec.{ltb}
+use lib.ListN.{getD, drop}
+use Rattle.std.specs.declared.option.Option.{Option}
+use Rattle.std.specs.declared.option.Option.the-variants.{Some, None}
+use Rattle.memory.specs.Steps.{Map}
+
+abbrev pub target : ℕ → ℕ → Option ℕ
+target n b = cond (ltb b n) (Some b) None
+
+abbrev pub dense : List ℕ → ℕ → ℕ → Map
+dense bs n w = λ p c. cond (ltb p n && ltb c w) (target n (getD bs (c * n + p) 0)) None
+
+abbrev pub rows : ℕ → ℕ
+rows n = cond (ltb n 16384) (n / 256) 64
+
+-- the watermark once class c is in use
+abbrev pub wider : ℕ → ℕ → ℕ
+wider w c = cond (ltb c w) w (c + 1)
+
+-- the bytes behind those of the n places
+abbrev pub behind : ℕ → List ℕ → List ℕ
+behind n bs = drop (256 * n) bs
