@@ -15,12 +15,15 @@ use items::Sign;
 use pattern::Code;
 use refusal::Cause;
 
+// How deep parentheses may nest.
+const DEEPEST: usize = 32;
+
 // The innermost pattern, and the patterns around it, each as it will be once the group in it closes.
 #[derive(Drop)]
 pub struct Parser {
     pub depth: usize,
     pub frame: Frame,
-    pub around: [Frame; 32],
+    pub around: [Frame; DEEPEST],
 }
 
 impl Parser {
@@ -33,7 +36,7 @@ impl Parser {
             around: [Frame {
                 branches: false,
                 repeats: Repeats::Empty,
-            }; 32],
+            }; DEEPEST],
         }
     }
 
@@ -83,7 +86,7 @@ impl Parser {
         requires { ⌜ Ready (now self) (now codes) (joins (now self .frame .repeats)) ⌝ }
         ensures { λ r. ⌜ Moved (step (stateOf (now (self .entry)) (held (now (codes .entry)))) (Item.Sign Sign.Open)) r (now (self .exit)) (now (codes .entry)) (now (codes .exit)) ⌝ }
     {
-        if self.depth == 32 {
+        if self.depth == DEEPEST {
             return Err(Cause::TooDeep);
         }
         self.frame.repeats.join(codes);

@@ -2,6 +2,8 @@
 ghost use mathlib.Core.Path.{_≡_};
 ghost use Prim.Native.Nat.{_≤_};
 ghost use lib.ListN.{length};
+use super::limits::MOST_ATOMS;
+use super::limits::MOST_CODES;
 use pattern::Code;
 
 mod contents;
@@ -10,9 +12,9 @@ mod reading;
 
 #[derive(Drop)]
 pub struct Draft<T> {
-    tests: [T; 63],
+    tests: [T; MOST_ATOMS],
     atoms: usize,
-    codes: [Code; 1023],
+    codes: [Code; MOST_CODES],
     used: usize,
     ghost counts: { (atoms ≤ 63) × (used ≤ 1023) },
     ghost tables: { (length tests ≡ 63) × (length codes ≡ 1023) },

@@ -5,6 +5,7 @@ pub use self::notations::read_events;
 pub use self::trials::trials_stand;
 
 mod draft;
+mod limits;
 mod notations;
 mod surplus;
 mod trials;

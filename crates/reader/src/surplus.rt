@@ -1,6 +1,7 @@
 // The count of atoms.
 ghost use mathlib.Core.Path.{_≡_};
 ghost use Rattle.reader.specs.Rows.{surplus};
+use super::limits::MOST_ATOMS;
 use items::Item;
 use items::Placed;
 
@@ -8,7 +9,7 @@ use items::Placed;
 pub fn surplus_atom(items: &[Placed]) -> Option<usize>
     ensures { λ r. ⌜ r ≡ surplus 63 (now (items .entry)) ⌝ }
 {
-    let mut free: usize = 63;
+    let mut free = MOST_ATOMS;
     for placed in items {
         match placed.item {
             Item::Sign(_) => {}

@@ -4,6 +4,8 @@ ghost use mathlib.Core.List.{[], _∷_, _++_};
 ghost use lib.ListN.{length, take};
 ghost use Rattle.reader.specs.Drafts.{testsOf, codesOf, numbered};
 use super::Draft;
+use crate::limits::MOST_ATOMS;
+use crate::limits::MOST_CODES;
 use pattern::Code;
 
 impl<T: Copy> Draft<T> {
@@ -13,9 +15,9 @@ impl<T: Copy> Draft<T> {
         ensures codes { λ r. ⌜ codesOf r ≡ [] ⌝ }
     {
         Draft {
-            tests: [blank; 63],
+            tests: [blank; MOST_ATOMS],
             atoms: 0,
-            codes: [Code::Atom; 1023],
+            codes: [Code::Atom; MOST_CODES],
             used: 0,
         }
     }
@@ -56,7 +58,7 @@ impl<T: Copy> Draft<T> {
     pub(super) fn keep(&mut self, test: T)
         ensures { λ _. ⌜ testsOf (now (self .exit)) ≡ take 63 (testsOf (now (self .entry)) ++ test ∷ []) ⌝ }
     {
-        if self.atoms < 63 {
+        if self.atoms < MOST_ATOMS {
             self.tests[self.atoms] = test;
             self.atoms += 1;
         }

@@ -7,6 +7,7 @@ ghost use Rattle.reader.specs.Law.{Lawful};
 ghost use Rattle.reader.specs.Reading.{reading, answer, testsRead, codesRead};
 ghost use Rattle.reader.specs.Steps.{Checked, Filled};
 use super::Draft;
+use crate::limits::MOST_BYTES;
 use crate::surplus::surplus_atom;
 use collector::Collector;
 use grammar::read_pattern;
@@ -24,11 +25,11 @@ impl<T: Copy> Draft<T> {
         ensures codes { λ r. ⌜ codesOf (now (self .exit)) ≡ codesRead (reading (N·Notation .lexed) (now (text .entry))) ⌝ }
         ensures law { λ r. ⌜ Lawful (N·Notation .lexed) (now (text .entry)) (testsOf (now (self .exit))) (codesOf (now (self .exit))) r ⌝ }
     {
-        if text.len() > 512 {
+        if text.len() > MOST_BYTES {
             self.clear();
             return Err(Refusal {
                 cause: Cause::TextTooLong,
-                place: 512,
+                place: MOST_BYTES,
             });
         }
         match self.fill::<N>(text) {
@@ -48,7 +49,7 @@ impl<T: Copy> Draft<T> {
         let mut space = [Placed {
             item: Item::Atom,
             place: 0,
-        }; 512];
+        }; MOST_BYTES];
         let count = self.lex::<N>(text, &mut space[..])?;
         self.check(&space[..count], text.len())
     }
