@@ -22,15 +22,15 @@ use Rattle.grammar.specs.Refusals.FirstMet.{inside, at-end}
 use Rattle.grammar.proofs.Complete.{Filled, more-filled, wants, complete}
 use Rattle.grammar.proofs.Sound.{accepted-is}
 
-abbrev AllFilled : List Frame → Type 0
+abbrev pub AllFilled : List Frame → Type 0
 AllFilled [] = Unit {0}
 AllFilled (f ∷ st) = Filled (f .repeats) × AllFilled st
 
 -- the reader comes to the state s behind u
-record Reached (u : List Placed) (s : State) : Type 0 where
-  same : (len : ℕ) (ys : List Placed) → run len start (u ++ ys) ≡ run len s ys
-  due : s .frame .repeats ≡ Empty → Due u
-  filled : AllFilled (s .around)
+pub record Reached (u : List Placed) (s : State) : Type 0 where
+  pub same : (len : ℕ) (ys : List Placed) → run len start (u ++ ys) ≡ run len s ys
+  pub due : s .frame .repeats ≡ Empty → Due u
+  pub filled : AllFilled (s .around)
 
 not-empty : {A : Type 0} (k : Repeats) → Filled k → k ≡ Empty → A
 not-empty Empty h e = absurd h
@@ -60,7 +60,7 @@ closes-all len n cs f (g ∷ st) h a =
     let x = closes-all len (suc n) (cs ++ ends f) g st (a .0) (a .1) in
     (suc (x .0), x .1, wants len (f .repeats) (go (state (suc n) (cs ++ ends f) g st)) 0 (λ t. run len t (closings (x .0))) h ∙ x .2)
 
-begins : (u : List Placed) (s : State) → Reached u s → Begins u
+pub begins : (u : List Placed) (s : State) → Reached u s → Begins u
 begins u s r =
     let x = completes 0 (s .room) (s .codes) (s .frame) (s .around) in
     (x .0, (x .1, accepted-is 32 0 (u ++ x .0) (x .1) (r .same 0 (x .0) ∙ x .2)))
@@ -93,7 +93,7 @@ fine u (Item.Sign Sign.Plus) p s a = fine-wanted (u ++ at (Item.Sign Sign.Plus) 
 fine u (Item.Sign Sign.Query) p s a = fine-wanted (u ++ at (Item.Sign Sign.Query) p ∷ []) (s .frame .repeats) (go (state (s .room) (s .codes ++ Code.Maybe ∷ []) (s .frame) (s .around))) λ h. (λ e. not-empty (s .frame .repeats) h e, a)
 
 -- what a refusing step says
-abbrev Blamed : List Placed → Item → Step → Type 0
+abbrev pub Blamed : List Placed → Item → Step → Type 0
 Blamed u i (go s) = Unit {0}
 Blamed u i (wrong k) = Blocked k u i
 
@@ -124,7 +124,7 @@ openings (Item.Sign Sign.Star) = 0
 openings (Item.Sign Sign.Plus) = 0
 openings (Item.Sign Sign.Query) = 0
 
-blamed : (u : List Placed) (i : Item) (s : State) → Reached u s → Blamed u i (step s i)
+pub blamed : (u : List Placed) (i : Item) (s : State) → Reached u s → Blamed u i (step s i)
 unfolding openings
 blamed u Item.Atom s r = tt
 blamed u (Item.Sign Sign.Open) s r = blamed-opened u (s .room) (s .codes) (s .frame) (s .around)
@@ -135,7 +135,7 @@ blamed u (Item.Sign Sign.Plus) s r = blamed-wanted u (Item.Sign Sign.Plus) (s .f
 blamed u (Item.Sign Sign.Query) s r = blamed-wanted u (Item.Sign Sign.Query) (s .frame .repeats) (go (state (s .room) (s .codes ++ Code.Maybe ∷ []) (s .frame) (s .around))) (r .due) (other (Item.Sign Sign.Query) openings refl refl) λ h. tt
 
 -- one item on
-onto : (u : List Placed) (x : Placed) (s t : State) → Reached u s → step s (x .item) ≡ go t → Reached (u ++ x ∷ []) t
+pub onto : (u : List Placed) (x : Placed) (s t : State) → Reached u s → step s (x .item) ≡ go t → Reached (u ++ x ∷ []) t
 onto u x s t r e =
     let g : Fine (u ++ x ∷ []) (go t) = subst (Fine (u ++ x ∷ [])) e (fine u (x .item) (x .place) s (r .filled)) in
     record {
@@ -151,7 +151,7 @@ stuck u x s k r e (ys, (cs, p)) =
     (sym (ap (run 0 start) (append-assoc u (x ∷ []) ys) ∙ r .same 0 (x ∷ ys) ∙ ap (λ z. after z (x .place) (λ v. run 0 v ys)) e) ∙ complete 0 p)
 
 -- what a refusal at the end says
-abbrev Ended : List Placed → Step → Type 0
+abbrev pub Ended : List Placed → Step → Type 0
 Ended u (go s) = Unit {0}
 Ended u (wrong k) = Unfinished k u
 
@@ -168,6 +168,14 @@ ended-wanted : (u : List Placed) (k : Repeats) (d : Step) → (k ≡ Empty → D
 ended-wanted u Empty d due h = Unfinished.operand (due refl)
 ended-wanted u One d due h = h tt
 ended-wanted u Many d due h = h tt
+
+pub reached-none : Reached [] start
+reached-none = record { same = λ len ys. refl; due = λ e. front; filled = tt }
+
+pub ended : (u : List Placed) (s : State) → Reached u s → Ended u (last s)
+ended u s r =
+    let t = state (s .room) (s .codes ++ ends (s .frame)) (s .frame) (s .around) in
+    ended-wanted u (s .frame .repeats) (done t (s .around)) (r .due) (λ h. ended-done u (s .room) (s .codes) (s .frame) (s .around) t h (r .filled) (r .same))
 
 module _ (len : ℕ) (k : Cause) (p : ℕ) where
   end-met : (u : List Placed) (d : Step) → Ended u d → after d len (λ t. accepted (t .codes)) ≡ refused k p → Begins u → (IsPattern u → ⊥) → FirstMet len u k p
@@ -188,11 +196,9 @@ module _ (len : ℕ) (k : Cause) (p : ℕ) where
   met : (xs u : List Placed) (s : State) → Reached u s → run len s xs ≡ refused k p → FirstMet len (u ++ xs) k p
   met [] u s r e =
       let same : run len start u ≡ refused k p = ap (run len start) (sym (append-nil u)) ∙ r .same len [] ∙ e in
-      let b = ended-wanted u (s .frame .repeats) (done (state (s .room) (s .codes ++ ends (s .frame)) (s .frame) (s .around)) (s .around)) (r .due)
-      (λ h. ended-done u (s .room) (s .codes) (s .frame) (s .around) (state (s .room) (s .codes ++ ends (s .frame)) (s .frame) (s .around)) h (r .filled) (r .same)) in
-      subst (λ z. FirstMet len z k p) (sym (append-nil u)) (end-met u (last s) b e (begins u s r) (λ i. clash k p (i .0) (sym same ∙ complete len (i .1))))
+      subst (λ z. FirstMet len z k p) (sym (append-nil u)) (end-met u (last s) (ended u s r) e (begins u s r) (λ i. clash k p (i .0) (sym same ∙ complete len (i .1))))
   met (x ∷ xs) u s r e = step-met u x xs s (step s (x .item)) r refl (blamed u (x .item) s r) e (met xs (u ++ x ∷ []))
 
 -- a refusal is what is first met
 pub first-met : (xs : List Placed) (len : ℕ) (k : Cause) (p : ℕ) → parse xs len ≡ refused k p → FirstMet len xs k p
-first-met xs len k p e = met len k p xs [] start (record { same = λ len ys. refl; due = λ e. front; filled = tt }) e
+first-met xs len k p e = met len k p xs [] start reached-none e

@@ -4,6 +4,7 @@ pub mod First
 pub mod Lawful
 pub mod Loads
 pub mod Moves
+pub mod Sole
 pub mod Sound
 pub mod Treed
 pub mod Turns

@@ -30,10 +30,11 @@ pub record Accepted (xs : List Placed) (cs : List Code) : Type 0 where
   -- an atom of the tree for each of the items
   pub treed : Shaped cs (atoms xs)
 
--- the items are no such pattern, and this is what is first met
+-- the items are no such pattern, and this alone is what is first met
 pub record Refused (xs : List Placed) (len : ℕ) (cause : Cause) (place : ℕ) : Type 0 where
   pub none : (cs : List Code) → Pattern 32 xs cs → ⊥
   pub met : FirstMet len xs cause place
+  pub only : (k : Cause) (p : ℕ) → FirstMet len xs k p → (k ≡ cause) × (p ≡ place)
 
 abbrev pub Understood : List Placed → ℕ → List Code → Result (Unit {0}) Refusal → Type 0
 Understood xs len cs (Ok u) = Accepted xs cs

@@ -2,4 +2,5 @@ pub mod Tables
 pub mod Counts
 pub mod Rows
 pub mod Taking
+pub mod Atoms
 pub mod Understood

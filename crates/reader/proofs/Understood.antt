@@ -2,21 +2,20 @@
 use mathlib.Core.Path.{_≡_, refl, sym, ap, subst, _∙_}
 use mathlib.Core.Bool.{cond}
 use mathlib.Core.List.{List, [], _∷_, _++_}
-use Prim.Native.Nat.{ℕ, zero, suc, _+_, _<_, _≤_}
+use Prim.Native.Nat.{ℕ, _+_, _<_, _≤_}
 use native.Mathlib.Omega.{arith}
-use lib.ListN.{length, take, length-append}
+use lib.ListN.{length, take}
 use borrow.Author.Tests.{le-ltb, lt-ltb}
 use Rattle.std.specs.declared.option.Option.{Option}
 use Rattle.std.specs.declared.option.Option.the-variants.{Some, None}
 use Rattle.std.specs.declared.result.Result.{Result}
 use Rattle.std.specs.declared.result.Result.the-variants.{Ok, Err}
 use Rattle.std.proofs.shelf.Lists.{take-all}
+use Rattle.refusal.specs.declared.Cause.{Cause}
 use Rattle.refusal.specs.declared.Cause.the-variants.{TextTooLong, TooManyAtoms}
 use Rattle.refusal.specs.declared.Refusal.{Refusal}
 use Rattle.pattern.specs.declared.Code.{Code}
 use Rattle.items.specs.declared.Placed.{Placed}
-use Rattle.items.specs.declared.Token.{Token}
-use Rattle.items.specs.declared.Token.the-variants.{Space, Sign, Atom}
 use Rattle.grammar.specs.Grammar.{Pattern, atoms}
 use Rattle.grammar.specs.Law.{Shaped, Understood}
 use Rattle.grammar.specs.Parse.{parse}
@@ -24,95 +23,53 @@ use Rattle.grammar.specs.Parse as Parse
 use Rattle.reader.specs.Law.{RowOf, ReadsAs, Met}
 use Rattle.reader.specs.Reading.{lex, refusal, by-structure, by-count, by-lexemes, reading, outcome}
 use Rattle.reader.specs.Reading.Reading.{refused}
-use Rattle.reader.specs.Rows.{Lexer, Found, Row, with-item, items, with-test, tests, surplus, past}
+use Rattle.reader.specs.Rows.{Lexer, Found, Row, items, tests, surplus}
 use Rattle.reader.specs.Steps.{Whole, Stopped, By-count, Checked, Filled}
-use Rattle.reader.proofs.Rows.{row-lex, row-stop, tests-append}
-
--- each atom has a test
-atoms-token : {T : Type 0} (t : Token T) (p : ℕ) (xs : List Placed) (ts : List T) → atoms xs ≡ length ts → atoms (with-item t p xs) ≡ length (with-test t ts)
-atoms-token Space p xs ts e = e
-atoms-token (Sign s) p xs ts e = omega (arith, e)
-atoms-token (Atom t) p xs ts e = omega (arith, e)
-
-pub atoms-tests : {T : Type 0} (fs : List (Found T)) → atoms (items fs) ≡ length (tests fs)
-atoms-tests [] = refl
-atoms-tests (f ∷ fs) = atoms-token (f .token) (f .place) (items fs) (tests fs) (atoms-tests fs)
-
--- where the 64th atom stands
-record Split {T : Type 0} (n : ℕ) (fs : List (Found T)) (p : ℕ) : Type 0 where
-  before : List (Found T)
-  here : Found T
-  after : List (Found T)
-  test : T
-  whole : fs ≡ before ++ here ∷ after
-  number : length (tests before) ≡ n
-  is : here .token ≡ Atom test
-  place : here .place ≡ p
-
-module _ {T : Type 0} where
-  -- what the count says
-  abbrev Tells : ℕ → List (Found T) → Option ℕ → Type 0
-  Tells n fs (Some p) = Split n fs p
-  Tells n fs None = length (tests fs) ≤ n
-
-  longer : (n m : ℕ) (f : Found T) (fs : List (Found T)) (o : Option ℕ) → Tells m fs o
-      → ((us : List (Found T)) → length (tests us) ≡ m → length (tests (f ∷ us)) ≡ n) → (length (tests fs) ≤ m → length (tests (f ∷ fs)) ≤ n) → Tells n (f ∷ fs) o
-  longer n m f fs (Some p) s same few =
-      record {
-        before = f ∷ s .before;
-        here = s .here;
-        after = s .after;
-        test = s .test;
-        whole = ap (λ z. f ∷ z) (s .whole);
-        number = same (s .before) (s .number);
-        is = s .is;
-        place = s .place;
-      }
-  longer n m f fs None s same few = few s
-
-  tells-token : (n : ℕ) (f : Found T) (fs : List (Found T)) (t : Token T) → f .token ≡ t → ((m : ℕ) → Tells m fs (surplus m (items fs)))
-      → Tells n (f ∷ fs) (surplus n (with-item t (f .place) (items fs)))
-  tells-token n f fs Space e ih =
-      longer n n f fs (surplus n (items fs)) (ih n) (λ us h. ap (λ z. length (with-test z (tests us))) e ∙ h)
-      (λ h. let q : length (with-test (f .token) (tests fs)) ≡ length (tests fs) = ap (λ z. length (with-test z (tests fs))) e in omega arith)
-  tells-token n f fs (Sign s) e ih =
-      longer n n f fs (surplus n (items fs)) (ih n) (λ us h. ap (λ z. length (with-test z (tests us))) e ∙ h)
-      (λ h. let q : length (with-test (f .token) (tests fs)) ≡ length (tests fs) = ap (λ z. length (with-test z (tests fs))) e in omega arith)
-  tells-token zero f fs (Atom t) e ih = record { before = []; here = f; after = fs; test = t; whole = refl; number = refl; is = e; place = refl }
-  tells-token (suc n) f fs (Atom t) e ih =
-      longer (suc n) n f fs (surplus n (items fs)) (ih n) (λ us h. ap (λ z. length (with-test z (tests us))) e ∙ ap suc h)
-      (λ h. let q : length (with-test (f .token) (tests fs)) ≡ suc (length (tests fs)) = ap (λ z. length (with-test z (tests fs))) e in omega arith)
-
-  tells : (n : ℕ) (fs : List (Found T)) → Tells n fs (surplus n (items fs))
-  tells n [] = omega arith
-  tells n (f ∷ fs) = tells-token n f fs (f .token) refl (λ m. tells m fs)
-
-  -- no atom is past n where there are no more than n
-  none-past : (n : ℕ) (fs : List (Found T)) (p : ℕ) → Split n fs p → length (tests fs) ≤ n → ⊥
-  none-past n fs p s h =
-      let e : length (tests fs) ≡ length (tests (s .before)) + length (tests (s .here ∷ s .after)) = ap (λ z. length (tests z)) (s .whole) ∙ ap length (tests-append (s .before) (s .here ∷ s .after)) ∙ length-append (tests (s .before)) (tests (s .here ∷ s .after)) in
-      let d : length (tests (s .here ∷ s .after)) ≡ suc (length (tests (s .after))) = ap (λ z. length (with-test z (tests (s .after)))) (s .is) in
-      omega (arith, e, d, s .number)
+use Rattle.grammar.proofs.Sole.{met-refused}
+use Rattle.reader.proofs.Atoms.{atoms-tests, Split, Tells, tells, none-past, few-none, found-past}
+use Rattle.reader.proofs.Rows.{row-lex, row-stop}
 
 module _ {T : Type 0} (lexed : Lexer T) (text : List ℕ) where
+  long : 512 < length text → reading lexed text ≡ refused (refusal TextTooLong 512)
+  long h = ap (λ b. cond b (refused (refusal TextTooLong 512)) (by-lexemes (length text) (lex lexed 0 0 text))) (lt-ltb 512 (length text) h)
+
+  lexes : length text ≤ 512 → reading lexed text ≡ by-lexemes (length text) (lex lexed 0 0 text)
+  lexes short = ap (λ b. cond b (refused (refusal TextTooLong 512)) (by-lexemes (length text) (lex lexed 0 0 text))) (le-ltb 512 (length text) short)
+
+  counts : (fs : List (Found T)) → RowOf lexed text fs → reading lexed text ≡ by-count (length text) fs (surplus 63 (items fs))
+  counts fs (short, w) = lexes short ∙ ap (by-lexemes (length text)) (row-lex lexed 0 text fs (length text) w)
+
+  -- what is met is what is read
+  meets : (k : Cause) (p : ℕ) → Met lexed text k p → reading lexed text ≡ refused (refusal k p)
+  meets k p (Met.long h) = long h
+  meets k p (Met.lexeme fs q rest e short row some is) = lexes short ∙ ap (by-lexemes (length text)) (row-stop lexed 0 text fs q rest e row some is)
+  meets k p (Met.atom fs gs f t row n is) = counts (fs ++ f ∷ gs) row ∙ ap (by-count (length text) (fs ++ f ∷ gs)) (found-past 63 fs gs f t n is)
+  meets k p (Met.structure fs row few m) =
+      counts fs row ∙ ap (by-count (length text) fs) (few-none 63 fs few) ∙ ap (by-structure (tests fs)) (met-refused (length text) (items fs) k p m)
+
+  -- so nothing else is
+  sole : (e : Refusal) → reading lexed text ≡ refused e → (k : Cause) (p : ℕ) → Met lexed text k p → (k ≡ e .cause) × (p ≡ e .place)
+  sole e h k p m =
+      let q : reading lexed text ≡ refused (refusal k p) = meets k p m in
+      let d : refusal k p ≡ e = cc in
+      (ap (λ x. x .cause) d, ap (λ x. x .place) d)
+
   -- a text over 512 bytes
   pub too-long : 512 < length text → (ts : List T) (cs : List Code) → Filled lexed text ts cs (Err (refusal TextTooLong 512))
   too-long h ts cs =
       record {
-        meaning = ap (λ b. cond b (refused (refusal TextTooLong 512)) (by-lexemes (length text) (lex lexed 0 0 text))) (lt-ltb 512 (length text) h);
-        law = record { none = λ us ds r. let k = r .row .0 in omega arith; met = Met.long h };
+        meaning = long h;
+        law = record { none = λ us ds r. let k = r .row .0 in omega arith; met = Met.long h; only = sole (refusal TextTooLong 512) (long h) };
       }
 
   module _ (short : length text ≤ 512) where
-    lexes : reading lexed text ≡ by-lexemes (length text) (lex lexed 0 0 text)
-    lexes = ap (λ b. cond b (refused (refusal TextTooLong 512)) (by-lexemes (length text) (lex lexed 0 0 text))) (le-ltb 512 (length text) short)
-
     -- a lexeme cannot be read
     pub stopped : (e : Refusal) (ts : List T) (cs : List Code) → Stopped lexed text e → Filled lexed text ts cs (Err e)
     stopped e ts cs s =
         let stop = row-stop lexed 0 text (s .found) (s .place) (s .rest) e (s .row) (s .some) (s .is) in
+        let said : reading lexed text ≡ refused e = lexes short ∙ ap (by-lexemes (length text)) stop in
         record {
-          meaning = lexes ∙ ap (by-lexemes (length text)) stop;
+          meaning = said;
           law =
               record {
                 none = λ us ds r.
@@ -120,6 +77,7 @@ module _ {T : Type 0} (lexed : Lexer T) (text : List ℕ) where
                     let z : _≡_ {A = ℕ} 0 1 = cc in
                     omega arith;
                 met = Met.lexeme (s .found) (s .place) (s .rest) e short (s .row) (s .some) (s .is);
+                only = sole e said;
               };
         }
 
@@ -131,15 +89,13 @@ module _ {T : Type 0} (lexed : Lexer T) (text : List ℕ) where
         cc
 
     module _ (fs : List (Found T)) (w : Row lexed 0 text fs (length text) []) where
-      counts : reading lexed text ≡ by-count (length text) fs (surplus 63 (items fs))
-      counts = lexes ∙ ap (by-lexemes (length text)) (row-lex lexed 0 text fs (length text) w)
-
       -- too many atoms
       crowded : (p : ℕ) (ts : List T) (cs : List Code) → surplus 63 (items fs) ≡ Some p → Split 63 fs p → Filled lexed text ts cs (Err (refusal TooManyAtoms p))
       crowded p ts cs e s =
           let row : RowOf lexed text (s .before ++ s .here ∷ s .after) = subst (RowOf lexed text) (s .whole) (short, w) in
+          let said : reading lexed text ≡ refused (refusal TooManyAtoms p) = counts fs (short, w) ∙ ap (by-count (length text) fs) e in
           record {
-            meaning = counts ∙ ap (by-count (length text) fs) e;
+            meaning = said;
             law =
                 record {
                   none = λ us ds r.
@@ -148,6 +104,7 @@ module _ {T : Type 0} (lexed : Lexer T) (text : List ℕ) where
                       let f = r .few in
                       none-past 63 fs p s (omega arith);
                   met = subst (Met lexed text TooManyAtoms) (s .place) (Met.atom (s .before) (s .after) (s .here) (s .test) row (s .number) (s .is));
+                  only = sole (refusal TooManyAtoms p) said;
                 };
           }
 
@@ -158,7 +115,7 @@ module _ {T : Type 0} (lexed : Lexer T) (text : List ℕ) where
           let all : ts ≡ tests fs = t ∙ take-all 63 (tests fs) few in
           let n : length ts ≡ length (tests fs) = ap length all in
           record {
-            meaning = counts ∙ ap (by-count (length text) fs) e ∙ (λ i. by-structure (sym all i) (q i));
+            meaning = counts fs (short, w) ∙ ap (by-count (length text) fs) e ∙ (λ i. by-structure (sym all i) (q i));
             law =
                 record {
                   reads = record { found = fs; row = (short, w); tested = all; few = omega arith; pattern = l .pattern };
@@ -169,12 +126,14 @@ module _ {T : Type 0} (lexed : Lexer T) (text : List ℕ) where
                 };
           }
       structured ts cs (Err e) t d few q l =
+          let said : reading lexed text ≡ refused e = counts fs (short, w) ∙ ap (by-count (length text) fs) d ∙ ap (by-structure (tests fs)) q in
           record {
-            meaning = counts ∙ ap (by-count (length text) fs) d ∙ ap (by-structure (tests fs)) q;
+            meaning = said;
             law =
                 record {
                   none = λ us ds r. l .none ds (subst (λ z. Pattern 32 (items z) ds) (same-row fs w us ds r) (r .pattern));
                   met = Met.structure fs (short, w) few (l .met);
+                  only = sole e said;
                 };
           }
 

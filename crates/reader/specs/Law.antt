@@ -48,10 +48,11 @@ pub record Accepted {T : Type 0} (lexed : Lexer T) (text : List ℕ) (ts : List 
   pub only : (us : List T) (ds : List Code) → ReadsAs lexed text us ds → (us ≡ ts) × (ds ≡ cs)
   pub treed : Shaped cs (length ts)
 
--- the text reads in no way, and this is what is first met
+-- the text reads in no way, and this alone is what is first met
 pub record Refused {T : Type 0} (lexed : Lexer T) (text : List ℕ) (e : Refusal) : Type 0 where
   pub none : (us : List T) (ds : List Code) → ReadsAs lexed text us ds → ⊥
   pub met : Met lexed text (e .cause) (e .place)
+  pub only : (k : Cause) (p : ℕ) → Met lexed text k p → (k ≡ e .cause) × (p ≡ e .place)
 
 abbrev pub Lawful : {T : Type 0} → Lexer T → List ℕ → List T → List Code → Result (Unit {0}) Refusal → Type 0
 Lawful lexed text ts cs (Ok u) = Accepted lexed text ts cs
