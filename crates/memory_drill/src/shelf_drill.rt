@@ -13,6 +13,7 @@ pub struct ShelfTally {
     know: u32,
     note: u32,
     noted: u32,
+    full: u32,
     drop: u32,
     empty: u32,
     whole: u32,
@@ -25,6 +26,7 @@ pub impl fmt::Display for ShelfTally as ShelfTallyDisplay {
             know,
             note,
             noted,
+            full,
             drop,
             empty,
             whole,
@@ -32,7 +34,7 @@ pub impl fmt::Display for ShelfTally as ShelfTallyDisplay {
         } = *self;
         write!(
             f,
-            "{know} know, {note} note ({noted} noted), {drop} drop, {empty} empty, {whole} whole maps; {differed} differed"
+            "{know} know, {note} note ({noted} noted, {full} at full capacity), {drop} drop, {empty} empty, {whole} whole maps; {differed} differed"
         )
     }
 }
@@ -62,6 +64,9 @@ fn note<S: Shelf>(
     let class = chance.class();
     let target = chance.place(model.places());
     tally.note = tally.note.saturating_add(1);
+    if model.count() == model.capacity() {
+        tally.full = tally.full.saturating_add(1);
+    }
     let noted = shelf.note(place, class, target);
     if noted {
         tally.noted = tally.noted.saturating_add(1);
@@ -141,12 +146,12 @@ fn one_call<S: Shelf>(
     chance: &mut Chance,
     tally: &mut ShelfTally,
 ) -> Result<(), AllocError> {
-    match chance.next() >> 16 & 63 {
+    match chance.next() >> 16 & 127 {
         0 => drop_some(heap, shelf, model, chance, tally)?,
-        1..=40 => note(shelf, model, chance, tally)?,
+        1..=80 => note(shelf, model, chance, tally)?,
         _ => know(shelf, model, chance, tally),
     }
-    if chance.rarely(1024) {
+    if chance.rarely(2048) {
         empty(shelf, model, tally);
     }
     Ok(())
@@ -163,15 +168,16 @@ pub fn drill_shelf<S: Shelf + Drop>(
         know: 0,
         note: 0,
         noted: 0,
+        full: 0,
         drop: 0,
         empty: 0,
         whole: 0,
         differed: 0,
     };
     empty(&mut shelf, &mut model, &mut tally);
-    for i in 0..4000u32 {
+    for i in 0..8000u32 {
         one_call(heap, &mut shelf, &mut model, &mut chance, &mut tally)?;
-        if i & 255 == 0 {
+        if i & 511 == 0 {
             compare_whole(&shelf, &model, &mut tally);
         }
     }

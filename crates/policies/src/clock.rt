@@ -4,6 +4,7 @@ ghost use Prim.Native.Nat.{ℕ, _<_};
 ghost use Rattle.sets.specs.Members.{none, plus, less, either};
 ghost use Rattle.sets.specs.Places.{member};
 ghost use Rattle.memory.specs.Live.{May};
+ghost use Rattle.policies.specs.Chosen.{Choice};
 ghost use Rattle.policies.specs.Round.{next, others, way, round, only, hand-after};
 use crate::others::without_held;
 use memory::policy::Policy;
@@ -73,6 +74,7 @@ pub impl Policy for Clock as ClockPolicy {
         ensures same { λ _. ⌜ member (now (self .exit) .live) ≡ member (now (self .entry) .live) ⌝ }
         ensures within { λ r. ⌜ ((k : ℕ) → member r k ≡ true → May (member (now (self .entry) .live)) held k) ⌝ }
         ensures some { λ r. ⌜ ((k : ℕ) → May (member (now (self .entry) .live)) held k → (j : ℕ) × (member r j ≡ true)) ⌝ }
+        ensures choice { λ r. ⌜ Choice (others (member (now (self .entry) .live)) held) (member (now (self .entry) .marks)) (now (self .entry) .hand) (member r) (member (now (self .exit) .marks)) (now (self .exit) .hand) ⌝ }
         ensures answer { λ r. ⌜ member r ≡ only (round (others (member (now (self .entry) .live)) held) (member (now (self .entry) .marks)) (now (self .entry) .hand) .found) ⌝ }
         ensures marks { λ _. ⌜ member (now (self .exit) .marks) ≡ round (others (member (now (self .entry) .live)) held) (member (now (self .entry) .marks)) (now (self .entry) .hand) .marks ⌝ }
         ensures hand { λ _. ⌜ now (self .exit) .hand ≡ hand-after (round (others (member (now (self .entry) .live)) held) (member (now (self .entry) .marks)) (now (self .entry) .hand) .found) (now (self .entry) .hand) ⌝ }
