@@ -4,7 +4,7 @@ use mathlib.Core.Path.{_≡_, refl, sym, ap, subst, _∙_, fun-ext}
 use mathlib.Core.Bool.{Bool, true, false, not, cond, _&&_, _||_}
 use mathlib.Core.Logic.{_⊎_, inl, inr, ⊎-elim}
 use native.Mathlib.Omega.{arith}
-use native.Mathlib.Nat.{zero-div, div-eq-of-lt, lt-of-lt-of-le}
+use native.Mathlib.Nat.{zero-div, div-eq-of-lt, lt-of-lt-of-le, mod-lt}
 use lib.Bits.{bitAnd, bitOr}
 use lib.Count.{ones, trailingZeros}
 use lib.Dec.{eqb, ltb}
@@ -185,3 +185,29 @@ meets-by f g h true e n = (
 meets-by f g h false e n =
     let m = and-parts (f (n .0)) (g (n .0)) (sym (ap (λ x. x (n .0)) e) ∙ n .1) in
     (λ _. (n .0, m .0, m .1), λ _. refl)
+
+-- a set of one
+pub pow-mask : (w p : ℕ) → p < w → mask w ((1 * 2 ^ p) % 2 ^ w) ≡ plus w none p
+pow-mask w p h =
+    by-width w _ _
+    (λ k l. rw (one-shl p w h, lt-ltb k w l, lt-ltb p w h, test-pow p k) (or-swap false (eqb k p)))
+    (λ k l. rw (le-ltb k w l, ne-eqb k p (λ (e : k ≡ p). omega arith), lt-ltb p w h))
+
+single-is : (w q k : ℕ) → plus w none q k ≡ true → k ≡ q
+single-is w q k e = eqb-true k q (and-parts (ltb q w) (eqb k q) (or-swap false (ltb q w && eqb k q) ∙ e) .1)
+
+single-has : (w q : ℕ) → q < w → plus w none q q ≡ true
+single-has w q h = rw (lt-ltb q w h, eq-eqb q q refl)
+
+pub not-sole : (w m p q : ℕ) → m < 2 ^ w → p ≡ trailingZeros w m → (p < w → m ≡ (1 * 2 ^ p) % 2 ^ w → ⊥) → q < w → mask w m ≡ plus w none q → ⊥
+not-sole w m p q hm e ne hq is =
+    ⊎-elim
+    (λ (l : p < w).
+    let here : mask w m p ≡ true = ap (mask w m) e ∙ lowest-mask w m (subst (λ (x : ℕ). x < w) e l) in
+    let s : p ≡ q = single-is w q p (sym (ap (λ f. f p) is) ∙ here) in
+    let same : mask w m ≡ mask w ((1 * 2 ^ p) % 2 ^ w) = is ∙ ap (plus w none) (sym s) ∙ sym (pow-mask w p l) in
+    ne l (one-mask w m ((1 * 2 ^ p) % 2 ^ w) hm (mod-lt (1 * 2 ^ p) (pow-pos w)) same))
+    (λ (l : w ≤ p).
+    let gone : mask w m ≡ none = no-mask w m (subst (λ (x : ℕ). w ≤ x) e l) in
+    both-ways (plus w none q q) (sym (ap (λ f. f q) is) ∙ ap (λ f. f q) gone) (single-has w q hq))
+    (cases-lt p w)

@@ -90,4 +90,15 @@ impl PlaceSet {
         let p = (!self.bits).trailing_zeros() as u8;
         if p < 64 { Some(p) } else { None }
     }
+    // The member of a set that has exactly one.
+    pub fn sole(self) -> Option<u8>
+        ensures { λ r. ⌜ BySome r ((p : ℕ) → p < 64 → member self ≡ plus 64 none p → ⊥) (λ p. (p < 64) × (member self ≡ plus 64 none p)) ⌝ }
+    {
+        let p = self.bits.trailing_zeros() as u8;
+        if p < 64 && self.bits == 1 << p {
+            Some(p)
+        } else {
+            None
+        }
+    }
 }

@@ -12,16 +12,6 @@ pub record Swept (n : ℕ) (m : ℕ → Bool) (f g : Map) (gone : ℕ) : Type 0 
   pub count : gone + size n g ≡ size n f
   pub fewer : (q d : ℕ) → (g q d ≡ f q d) ⊎ (g q d ≡ None)
 
--- the same for each m that has the place
-abbrev pub SweptOf : ℕ → ℕ → Map → Map → ℕ → Type 0
-SweptOf n p f g gone = (m : ℕ → Bool) → m p ≡ true → Swept n m f g gone
-
-abbrev pub NoneFrom : ℕ → Map → Type 0
-NoneFrom p f = (d : ℕ) → f p d ≡ None
-
-abbrev pub NoneTo : ℕ → Map → Type 0
-NoneTo t f = (q d : ℕ) → f q d ≡ Some t → ⊥
-
 -- the map's step from q at class d, if any, is neither from nor to the places m
 abbrev pub Clean : (ℕ → Bool) → Map → ℕ → ℕ → Type 0
 Clean m f q d = f q d ≡ without f m q d

@@ -5,16 +5,13 @@ ghost use mathlib.Core.Path.{_≡_};
 ghost use mathlib.Core.Bool.{cond, _&&_, _||_};
 ghost use Prim.Native.Nat.{ℕ, _+_, _*_, _<_, _≤_};
 ghost use lib.Dec.{ltb};
-ghost use lib.ListN.{length};
+ghost use lib.ListN.{length, getD};
+ghost use Rattle.sets.specs.Members.{none, plus};
 ghost use Rattle.sets.specs.Places.{member};
 ghost use Rattle.memory.specs.Steps.{size, notable, after, without};
 ghost use Rattle.shelves.specs.Rows.{dense, target, wider, behind};
-ghost use Rattle.shelves.specs.Sweep.{Swept, SweptOf, NoneFrom, NoneTo, Clean};
+ghost use Rattle.shelves.specs.Sweep.{Swept, Clean};
 use sets::PlaceSet;
-
-// Up to so many places are forgotten one by one, since a pass that looks for one place alone is the
-// faster one.
-const FEW: u8 = 2;
 
 // The step that a byte says, of n places.
 fn step_of(b: u8, n: u8) -> Option<u8>
@@ -73,61 +70,60 @@ pub(crate) fn note_step(
     true
 }
 
-// Forgets the steps from a place.
-fn forget_from(bytes: &mut [u8], n: u8, used: u16, p: u8) -> usize
-    requires { ⌜ n * 256 ≤ length (now bytes) ⌝ ∗ ⌜ used ≤ 256 ⌝ ∗ ⌜ n ≤ 64 ⌝ ∗ ⌜ p < n ⌝ }
+// Forgets the step from place p at class c, and answers whether there was one.
+fn forget_from(bytes: &mut [u8], n: u8, used: u16, c: u16, p: u8) -> usize
+    requires { ⌜ n * 256 ≤ length (now bytes) ⌝ ∗ ⌜ used ≤ 256 ⌝ ∗ ⌜ n ≤ 64 ⌝ ∗ ⌜ c < used ⌝ ∗ ⌜ p < n ⌝ }
     ensures length { λ _. ⌜ length (now (bytes .exit)) ≡ length (now (bytes .entry)) ⌝ }
     ensures behind { λ _. ⌜ behind n (now (bytes .exit)) ≡ behind n (now (bytes .entry)) ⌝ }
-    ensures swept { λ r. ⌜ SweptOf n p (dense (now (bytes .entry)) n used) (dense (now (bytes .exit)) n used) r ⌝ }
-    ensures row { λ _. ⌜ NoneFrom p (dense (now (bytes .exit)) n used) ⌝ }
+    ensures swept { λ r. ⌜ Swept n (plus 64 none p) (dense (now (bytes .entry)) n used) (dense (now (bytes .exit)) n used) r ⌝ }
+    ensures gone { λ _. ⌜ n ≤ getD (now (bytes .exit)) (c * n + p) 0 ⌝ }
 {
-    let mut gone = 0;
-    for c in 0..used {
-        let at = c as usize * n as usize + p as usize;
-        if bytes[at] < n {
-            bytes[at] = 255;
-            gone += 1;
-        }
+    let at = c as usize * n as usize + p as usize;
+    if bytes[at] < n {
+        bytes[at] = 255;
+        1
+    } else {
+        0
     }
-    gone
 }
 
-// Forgets the steps to a place. Every byte is written, so that the loop has no branch.
-fn forget_to(bytes: &mut [u8], n: u8, used: u16, t: u8) -> usize
-    requires { ⌜ n * 256 ≤ length (now bytes) ⌝ ∗ ⌜ used ≤ 256 ⌝ ∗ ⌜ n ≤ 64 ⌝ ∗ ⌜ t < n ⌝ }
+// Forgets the steps to place p at class c. Every byte of the row is written and a byte counts, so that
+// the loop is one over vectors.
+fn forget_to(bytes: &mut [u8], n: u8, used: u16, c: u16, p: u8) -> usize
+    requires { ⌜ n * 256 ≤ length (now bytes) ⌝ ∗ ⌜ used ≤ 256 ⌝ ∗ ⌜ n ≤ 64 ⌝ ∗ ⌜ (c < used) × (p < n) ⌝ ∗ ⌜ n ≤ getD (now bytes) (c * n + p) 0 ⌝ }
     ensures length { λ _. ⌜ length (now (bytes .exit)) ≡ length (now (bytes .entry)) ⌝ }
     ensures behind { λ _. ⌜ behind n (now (bytes .exit)) ≡ behind n (now (bytes .entry)) ⌝ }
-    ensures swept { λ r. ⌜ SweptOf n t (dense (now (bytes .entry)) n used) (dense (now (bytes .exit)) n used) r ⌝ }
-    ensures targets { λ _. ⌜ NoneTo t (dense (now (bytes .exit)) n used) ⌝ }
+    ensures swept { λ r. ⌜ Swept n (plus 64 none p) (dense (now (bytes .entry)) n used) (dense (now (bytes .exit)) n used) r ⌝ }
+    ensures row { λ _. ⌜ ((q : ℕ) → Clean (plus 64 none p) (dense (now (bytes .exit)) n used) q c) ⌝ }
 {
-    let mut gone = 0;
-    for i in 0..(used as usize * n as usize) {
-        let b = bytes[i];
-        let stays = if b == t {
+    let start = c as usize * n as usize;
+    let mut gone: u8 = 0;
+    for q in 0..n {
+        let at = start + q as usize;
+        let b = bytes[at];
+        let stays = if b == p {
             gone += 1;
             255
         } else {
             b
         };
-        bytes[i] = stays;
+        bytes[at] = stays;
     }
-    gone
+    gone as usize
 }
 
-// Forgets the steps from or to the places one place after the other: for few places.
-fn forget_each(bytes: &mut [u8], n: u8, used: u16, places: PlaceSet) -> usize
-    requires { ⌜ n * 256 ≤ length (now bytes) ⌝ ∗ ⌜ used ≤ 256 ⌝ ∗ ⌜ n ≤ 64 ⌝ }
+// Forgets the steps from or to one place.
+fn forget_one(bytes: &mut [u8], n: u8, used: u16, p: u8) -> usize
+    requires { ⌜ n * 256 ≤ length (now bytes) ⌝ ∗ ⌜ used ≤ 256 ⌝ ∗ ⌜ n ≤ 64 ⌝ ∗ ⌜ p < n ⌝ }
     ensures length { λ _. ⌜ length (now (bytes .exit)) ≡ length (now (bytes .entry)) ⌝ }
     ensures behind { λ _. ⌜ behind n (now (bytes .exit)) ≡ behind n (now (bytes .entry)) ⌝ }
-    ensures map { λ _. ⌜ dense (now (bytes .exit)) n used ≡ without (dense (now (bytes .entry)) n used) (member places) ⌝ }
+    ensures map { λ _. ⌜ dense (now (bytes .exit)) n used ≡ without (dense (now (bytes .entry)) n used) (plus 64 none p) ⌝ }
     ensures answer { λ r. ⌜ r + size n (dense (now (bytes .exit)) n used) ≡ size n (dense (now (bytes .entry)) n used) ⌝ }
 {
     let mut gone = 0;
-    for p in 0..n {
-        if places.has(p) {
-            gone += forget_from(bytes, n, used, p);
-            gone += forget_to(bytes, n, used, p);
-        }
+    for c in 0..used {
+        gone += forget_from(bytes, n, used, c, p);
+        gone += forget_to(bytes, n, used, c, p);
     }
     gone
 }
@@ -160,7 +156,7 @@ fn forget_row(bytes: &mut [u8], n: u8, used: u16, c: u16, places: PlaceSet) -> u
     gone
 }
 
-// Forgets the steps from or to the places row by row: for many places.
+// Forgets the steps from or to the places row by row.
 fn forget_rows(bytes: &mut [u8], n: u8, used: u16, places: PlaceSet) -> usize
     requires { ⌜ n * 256 ≤ length (now bytes) ⌝ ∗ ⌜ used ≤ 256 ⌝ ∗ ⌜ n ≤ 64 ⌝ }
     ensures length { λ _. ⌜ length (now (bytes .exit)) ≡ length (now (bytes .entry)) ⌝ }
@@ -183,9 +179,8 @@ pub(crate) fn forget(bytes: &mut [u8], n: u8, used: u16, places: PlaceSet) -> us
     ensures map { λ _. ⌜ dense (now (bytes .exit)) n used ≡ without (dense (now (bytes .entry)) n used) (member places) ⌝ }
     ensures answer { λ r. ⌜ r + size n (dense (now (bytes .exit)) n used) ≡ size n (dense (now (bytes .entry)) n used) ⌝ }
 {
-    if places.count() <= FEW {
-        forget_each(bytes, n, used, places)
-    } else {
-        forget_rows(bytes, n, used, places)
+    match places.sole() {
+        Some(p) if p < n => forget_one(bytes, n, used, p),
+        _ => forget_rows(bytes, n, used, places),
     }
 }

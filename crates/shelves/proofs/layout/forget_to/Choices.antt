@@ -1,12 +1,5 @@
-use Prim.Native.Nat.{ℕ, _<_}
-use mathlib.Core.Path.{_≡_}
-use lib.ListN.{getD}
-use Rattle.shelves.specs.Rows.{dense, behind}
-use Rattle.shelves.specs.Sweep.{SweptOf}
+use Rattle.shelves.proofs.Sweeps.{OneInv}
 use Rattle.shelves.proofs.layout.forget_to.Given as given
 
-abbrev pub Inv-loop-i : given.InvT-loop-i
-Inv-loop-i l =
-    SweptOf (l .n) (l .t) (dense (l .entry .bytes) (l .n) (l .used)) (dense (l .bytes) (l .n) (l .used)) (l .gone)
-    × ((j : ℕ) → j < l .i → getD (l .bytes) j 0 ≡ l .t → ⊥)
-    × (behind (l .n) (l .bytes) ≡ behind (l .n) (l .entry .bytes))
+abbrev pub Inv-loop-q : given.InvT-loop-q
+Inv-loop-q l = OneInv (l .entry .bytes) (l .n) (l .used) (l .p) (l .c) (l .q) (l .bytes) (l .gone)
