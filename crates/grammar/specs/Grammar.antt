@@ -26,7 +26,7 @@ mutual
     repeat : {n : ℕ} {w : List Placed} {c : List Code} → Repeat n w c → Chain n w c
     join : {n : ℕ} {u v : List Placed} {a b : List Code} → Chain n u a → Repeat n v b → Chain n (u ++ v) (a ++ b ++ Code.Join ∷ [])
 
-  -- a unit followed by any number of the signs * + ?
+  -- a unit, and behind it any number of signs: star, plus, query
   pub data Repeat : ℕ → List Placed → List Code → Type 0 where
     unit : {n : ℕ} {w : List Placed} {c : List Code} → Single n w c → Repeat n w c
     star : {n : ℕ} {w : List Placed} {c : List Code} → Repeat n w c → (p : ℕ) → Repeat n (w ++ sign Sign.Star p ∷ []) (c ++ Code.Star ∷ [])

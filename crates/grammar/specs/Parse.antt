@@ -94,7 +94,7 @@ abbrev pub done : State → List Frame → Step
 done s [] = go s
 done s (f ∷ st) = wrong UnclosedGroup
 
--- one of the signs * + ?
+-- a repeat takes one sign more
 abbrev pub repeated : State → Code → Step
 repeated s d = operand (s .frame .repeats) (go (state (s .room) (s .codes ++ d ∷ []) (s .frame) (s .around)))
 

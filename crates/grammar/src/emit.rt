@@ -6,7 +6,7 @@ ghost use Rattle.grammar.specs.Memory.{Wrote};
 use collector::Collector;
 use pattern::Code;
 
-pub fn emit(codes: &mut Collector<'_, Code>, code: Code)
+pub(crate) fn emit(codes: &mut Collector<'_, Code>, code: Code)
     requires { ⌜ now codes .used < size (now codes) ⌝ }
     ensures { λ _. ⌜ Wrote (now (codes .entry)) (now (codes .exit)) (code ∷ []) ⌝ }
 {

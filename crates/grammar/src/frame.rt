@@ -26,7 +26,7 @@ pub struct Frame {
 }
 
 impl Repeats {
-    pub fn longer(self) -> Repeats
+    pub(crate) fn longer(self) -> Repeats
         ensures { λ r. ⌜ r ≡ more self ⌝ }
     {
         match self {
@@ -35,7 +35,7 @@ impl Repeats {
         }
     }
 
-    pub fn is_empty(self) -> bool
+    pub(crate) fn is_empty(self) -> bool
         ensures { λ r. ⌜ r ≡ none self ⌝ }
     {
         match self {
@@ -45,7 +45,7 @@ impl Repeats {
     }
 
     // The join that waited until the last repeat is complete.
-    pub fn join(self, codes: &mut Collector<'_, Code>)
+    pub(crate) fn join(self, codes: &mut Collector<'_, Code>)
         requires { ⌜ now codes .used + length (joins self) ≤ size (now codes) ⌝ }
         ensures { λ _. ⌜ Wrote (now (codes .entry)) (now (codes .exit)) (joins self) ⌝ }
     {
@@ -57,7 +57,7 @@ impl Repeats {
 }
 
 impl Frame {
-    pub fn fresh(branches: bool) -> Frame
+    pub(crate) fn fresh(branches: bool) -> Frame
         ensures { λ r. ⌜ r ≡ framed branches Repeats.Empty ⌝ }
     {
         Frame {
@@ -66,7 +66,7 @@ impl Frame {
         }
     }
 
-    pub fn grow(self) -> Frame
+    pub(crate) fn grow(self) -> Frame
         ensures { λ r. ⌜ r ≡ grown self ⌝ }
     {
         Frame {
@@ -76,7 +76,7 @@ impl Frame {
     }
 
     // The codes that end a branch.
-    pub fn end(self, codes: &mut Collector<'_, Code>)
+    pub(crate) fn end(self, codes: &mut Collector<'_, Code>)
         requires { ⌜ now codes .used + length (ends self) ≤ size (now codes) ⌝ }
         ensures { λ _. ⌜ Wrote (now (codes .entry)) (now (codes .exit)) (ends self) ⌝ }
     {

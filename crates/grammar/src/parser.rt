@@ -27,7 +27,7 @@ pub struct Parser {
 }
 
 impl Parser {
-    pub fn new() -> Parser
+    pub(crate) fn new() -> Parser
         ensures { λ r. ⌜ (stateOf r [] ≡ start) × (r .depth ≤ 32) ⌝ }
     {
         Parser {
@@ -40,7 +40,7 @@ impl Parser {
         }
     }
 
-    pub fn read(&mut self, item: Item, codes: &mut Collector<'_, Code>) -> Result<(), Cause>
+    pub(crate) fn read(&mut self, item: Item, codes: &mut Collector<'_, Code>) -> Result<(), Cause>
         requires { ⌜ (now self .depth ≤ 32) × (now codes .used ≤ size (now codes)) × (load (stateOf (now self) (held (now codes))) < size (now codes)) ⌝ }
         ensures { λ r. ⌜ Moved (step (stateOf (now (self .entry)) (held (now (codes .entry)))) item) r (now (self .exit)) (now (codes .entry)) (now (codes .exit)) ⌝ }
     {
@@ -59,7 +59,7 @@ impl Parser {
     }
 
     // At the end of the text.
-    pub fn finish(&mut self, codes: &mut Collector<'_, Code>) -> Result<(), Cause>
+    pub(crate) fn finish(&mut self, codes: &mut Collector<'_, Code>) -> Result<(), Cause>
         requires { ⌜ (now self .depth ≤ 32) × (now codes .used ≤ size (now codes)) × (load (stateOf (now self) (held (now codes))) ≤ size (now codes) + 1) ⌝ }
         ensures { λ r. ⌜ Moved (last (stateOf (now (self .entry)) (held (now (codes .entry))))) r (now (self .exit)) (now (codes .entry)) (now (codes .exit)) ⌝ }
     {
