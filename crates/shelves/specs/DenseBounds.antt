@@ -1,4 +1,4 @@
--- The dense rows keep a shelf's bounds.
+-- The dense rows keep a shelf's bounds. The proof stands here and not among the proofs, because the ghost member `bounds` cites it.
 use Prim.Native.Nat.{ℕ, zero, suc, _+_, _*_, _/_, _%_, _<_, _≤_}
 use mathlib.Core.Path.{_≡_, refl, sym, ap, _∙_}
 use mathlib.Core.Bool.{Bool, true, false, cond, _&&_}

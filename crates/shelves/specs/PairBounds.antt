@@ -1,4 +1,4 @@
--- The pairs keep a shelf's bounds.
+-- The pairs keep a shelf's bounds. The proof stands here and not among the proofs, because the ghost member `bounds` cites it.
 use Prim.Native.Nat.{ℕ, zero, suc, _+_, _<_, _≤_}
 use mathlib.Core.Path.{_≡_, refl, sym, ap, subst, _∙_}
 use mathlib.Core.Bool.{Bool, true, false, cond, _&&_}

@@ -1,12 +1,9 @@
--- The map that the first n pairs say, and that no two of them have one key.
-use Prim.Native.Nat.{ℕ, zero, suc, _<_, _≤_}
-use mathlib.Core.Path.{_≡_}
-use mathlib.Core.Bool.{Bool, true, false, cond, _&&_}
+-- A table of pairs: the map that its first n steps say, and that no two of them are from one place at one class.
+use Prim.Native.Nat.{ℕ, zero, suc}
+use mathlib.Core.Bool.{Bool, true, _&&_}
 use mathlib.Core.List.{List}
-use lib.Dec.{eqb, ltb}
+use lib.Dec.{ltb}
 use lib.ListN.{getD}
-use Rattle.std.specs.declared.option.Option.{Option}
-use Rattle.std.specs.declared.option.Option.the-variants.{Some, None}
 use Rattle.memory.specs.Steps.{Map, noted, isNone, nothing}
 use Rattle.shelves.specs.declared.step.Step.{Step}
 
@@ -16,6 +13,7 @@ no-step = record { place = 0; class = 0; target = 0 }
 abbrev pub at : List Step → ℕ → Step
 at xs i = getD xs i no-step
 
+-- each step is noted in turn
 unfoldable pub pairs : List Step → ℕ → Map
 pairs xs zero = nothing
 pairs xs (suc n) = noted (pairs xs n) (at xs n .place) (at xs n .class) (at xs n .target)
@@ -24,6 +22,7 @@ pairs xs (suc n) = noted (pairs xs n) (at xs n .place) (at xs n .class) (at xs n
 abbrev pub new : Map → Step → Bool
 new f s = ltb (s .place) 64 && (ltb (s .target) 64 && (ltb (s .class) 256 && isNone (f (s .place) (s .class))))
 
+-- each step was new when it was noted
 unfoldable pub distinct : List Step → ℕ → Bool
 distinct xs zero = true
 distinct xs (suc n) = new (pairs xs n) (at xs n) && distinct xs n
