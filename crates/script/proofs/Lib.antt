@@ -1,4 +1,5 @@
 pub mod Cuts
 pub mod Digits
 pub mod Ends
+pub mod Pairs
 pub mod Same

@@ -1,4 +1,5 @@
 pub mod Commands
+pub mod Hex
 pub mod Numbers
 pub mod Sheets
 pub mod Symbols

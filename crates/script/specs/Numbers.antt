@@ -1,4 +1,4 @@
--- Decimal numbers of at most 64 bits, and hexadecimal digits.
+-- Decimal numbers of at most 64 bits.
 use mathlib.Core.List.{List, [], _∷_}
 use mathlib.Core.Bool.{Bool, true, false, cond, _&&_}
 use Prim.Native.Nat.{ℕ, _+_, _-_, _*_, _^_, min}
@@ -25,10 +25,3 @@ digits n (b ∷ bs) = andThen (addDigit n b) (λ m. digits m bs)
 abbrev pub numberOf : List ℕ → Option ℕ
 numberOf [] = None
 numberOf (b ∷ bs) = digits 0 (b ∷ bs)
-
--- the value of a hexadecimal digit
-abbrev pub hexOf : ℕ → Option ℕ
-hexOf b =
-    cond (leb 48 b && leb b 57) (Some (b - 48))
-    (cond (leb 97 b && leb b 102) (Some (b - 97 + 10))
-    (cond (leb 65 b && leb b 70) (Some (b - 65 + 10)) None))
