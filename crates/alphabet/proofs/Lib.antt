@@ -2,8 +2,9 @@ mod Asking
 mod Bytewise
 mod Cutting
 mod Eventwise
+pub mod Filling
 mod First
 mod Inserting
 mod Numbering
-mod Passing
+pub mod Passing
 mod Rows

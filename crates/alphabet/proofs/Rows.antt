@@ -1,6 +1,6 @@
 -- Bytes have one row of answers exactly when they are alike, and the table is filled byte by byte.
 use mathlib.Core.Path.{_≡_, refl, sym, ap, _∙_}
-use mathlib.Core.Logic.{_⊎_, _≢_, inl, inr, ⊎-elim}
+use mathlib.Core.Logic.{_⊎_, ⊎-elim}
 use mathlib.Core.Bool.{Bool, true, false, cond, _&&_, Bool·beq}
 use mathlib.Core.List.{List, [], _∷_}
 use Prim.Native.Nat.{ℕ, zero, suc, _+_, _*_, _^_, _≤_, _<_}
@@ -8,9 +8,7 @@ use native.Mathlib.Omega.{arith}
 use native.Mathlib.Numerals.{add-one}
 use lib.Dec.{eqb}
 use lib.ListN.{length, getD, set, take, length-set}
-use lib.Seq.{getD-set-same, getD-set-other}
 use mir.Val.{boolByte}
-use borrow.Author.Count.{below-more}
 use Rattle.std.specs.Iters.{folded}
 use Rattle.std.proofs.shelf.Tests.{and-parts, and-from, cases-bool, eq-eqb, ne-eqb}
 use Rattle.std.proofs.shelf.Sums.{folded-more}
@@ -21,6 +19,7 @@ use Rattle.symbols.specs.declared.ByteTest.{ByteTest}
 use Rattle.symbols.specs.Tests.{passesByte}
 use Rattle.alphabet.specs.Numbering.{first, howMany, smallest, leads, member}
 use Rattle.alphabet.specs.Bytes.{alike, byteClass, byteClasses, row, passedByte, FirstLike}
+use Rattle.alphabet.proofs.Filling.{below-kept, below-set}
 use Rattle.alphabet.proofs.First.{first-is, howMany-yes, howMany-no, howMany-le}
 use Rattle.alphabet.proofs.Numbering.{smallest-like, class-same, class-leads, member-is}
 use Rattle.alphabet.proofs.Bytewise.{alike-equivalence, beq-eq}
@@ -91,14 +90,6 @@ Filled ts b n class passing = (length class ≡ 256) × (length passing ≡ 256)
 
 pub filled-at : (ts : List ByteTest) (b n n′ : ℕ) (class class′ : List ℕ) (passing passing′ : List PositionSet) → class′ ≡ class → passing′ ≡ passing → n′ ≡ n → Filled ts b n class passing → Filled ts b n′ class′ passing′
 filled-at ts b n n′ class class′ passing passing′ e f g h = rw (e, f, g) h
-
--- a write at i leaves what stands below, and puts v at i
-pub below-kept : {X : Type 0} (P : ℕ → X → Type 0) (xs : List X) (i : ℕ) (v d : X) → i < length xs → ((k : ℕ) → k < i → P k (getD xs k d)) → P i v → (k : ℕ) → k < i + 1 → P k (getD (set xs i v) k d)
-below-kept P xs i v d l h e =
-    below-more (λ k. P k (getD (set xs i v) k d)) i (λ k u. let ne : k ≢ i = omega arith in rw getD-set-other (h k u)) (rw getD-set-same e)
-
-pub below-set : (f : ℕ → ℕ) (xs : List ℕ) (i v : ℕ) → i < length xs → ((k : ℕ) → k < i → getD xs k 0 ≡ f k) → v ≡ f i → (k : ℕ) → k < i + 1 → getD (set xs i v) k 0 ≡ f k
-below-set f xs i v l h e = below-kept (λ k x. x ≡ f k) xs i v 0 l h e
 
 -- a byte that leads begins a class
 upto-new : (ts : List ByteTest) (b n : ℕ) (s : PositionSet) (class : List ℕ) (passing : List PositionSet) → b < 256 → length class ≡ 256 → length passing ≡ 256 → smallest (alike ts) b ≡ b → holds s ≡ passedByte ts b → Upto ts b n class passing → Upto ts (b + 1) (n + 1) (set class b n) (set passing n s)

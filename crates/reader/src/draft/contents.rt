@@ -40,6 +40,12 @@ impl<T: Copy> Draft<T> {
         Some(self.tests[k - 1])
     }
 
+    pub fn tests(&self) -> &[T]
+        ensures { λ r. ⌜ now r ≡ testsOf (now (self .entry)) ⌝ }
+    {
+        &self.tests[..self.atoms]
+    }
+
     pub fn codes(&self) -> &[Code]
         ensures { λ r. ⌜ now r ≡ codesOf (now (self .entry)) ⌝ }
     {

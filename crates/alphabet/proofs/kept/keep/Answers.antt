@@ -1,11 +1,12 @@
 use mathlib.Core.Path.{_≡_, ap, sym, _∙_}
 use mathlib.Core.Logic.{⊎-elim}
-use mathlib.Core.List.{List, [], _∷_, _++_}
+use mathlib.Core.List.{List}
 use Prim.Native.Nat.{ℕ, min, _<_, _≤_}
 use native.Mathlib.Omega.{arith}
 use lib.ListN.{length, take, length-set}
 use Rattle.std.proofs.shelf.Tests.{cases-lt}
-use Rattle.std.proofs.shelf.Lists.{take-more, take-more-set, take-all}
+use Rattle.std.proofs.shelf.Lists.{take-all}
+use Rattle.alphabet.proofs.Filling.{copied-more}
 use Rattle.alphabet.proofs.kept.keep.Needs as need
 
 -- past the end a front is the whole
@@ -18,8 +19,7 @@ loop-i-again g c =
     let i = c .loop-i .i in
     let x = c .index-tests-i .result in (
       length-set (c .loop-i .own) i x ∙ c .loop-i .inv .0,
-      take-more-set (c .loop-i .own) i x (omega (arith, c .loop-i .inv .0)) ∙ ap (λ xs. xs ++ x ∷ []) (c .loop-i .inv .1) ∙ ap (λ y. take i (c .args .tests .now) ++ y ∷ []) (c .index-tests-i .is) ∙
-          sym (take-more (c .args .tests .now) i x (omega arith)),
+      copied-more (c .loop-i .own) (c .args .tests .now) i x x (omega (arith, c .loop-i .inv .0)) (omega arith) (c .index-tests-i .is) (c .loop-i .inv .1),
     )
 
 pub returns : need.returns

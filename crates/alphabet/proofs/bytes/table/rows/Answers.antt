@@ -3,7 +3,7 @@ use native.Mathlib.Omega.{arith}
 use lib.ListN.{getD, set, length-set}
 use Rattle.std.proofs.shelf.Edits.{fill-by-more}
 use Rattle.alphabet.specs.Bytes.{row}
-use Rattle.alphabet.proofs.Rows.{below-set}
+use Rattle.alphabet.proofs.Filling.{below-set}
 use Rattle.alphabet.proofs.bytes.table.rows.Needs as need
 
 pub loop-byte-again : need.loop-byte-again

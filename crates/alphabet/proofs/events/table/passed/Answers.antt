@@ -6,7 +6,8 @@ use Rattle.std.proofs.shelf.Lists.{getD-replicate}
 use Rattle.sets.specs.Positions.{holds}
 use Rattle.alphabet.specs.Events.{lowestCode, passedCode}
 use Rattle.alphabet.proofs.Cutting.{lowest-zero, lowest-cut}
-use Rattle.alphabet.proofs.Rows.{below-kept, blank}
+use Rattle.alphabet.proofs.Filling.{below-kept}
+use Rattle.alphabet.proofs.Rows.{blank}
 use Rattle.alphabet.proofs.events.table.passed.Needs as need
 
 pub loop-i-holds : need.loop-i-holds

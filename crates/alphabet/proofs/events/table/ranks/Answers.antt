@@ -3,7 +3,7 @@ use native.Mathlib.Omega.{arith}
 use Prim.Native.Nat.{_+_, _*_}
 use lib.ListN.{length-set}
 use Rattle.alphabet.specs.Events.{atOrBelow}
-use Rattle.alphabet.proofs.Rows.{below-set}
+use Rattle.alphabet.proofs.Filling.{below-set}
 use Rattle.alphabet.proofs.events.table.ranks.Needs as need
 
 pub loop-kind-again : need.loop-kind-again
