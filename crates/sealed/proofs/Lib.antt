@@ -1,0 +1,7 @@
+mod Assembled
+mod Linking
+mod Parted
+mod Drafted
+mod Showing
+mod Stepping
+mod Uniting
