@@ -1,20 +1,19 @@
 -- The classes of bytes: what alike means, and the law.
 use mathlib.Core.Path.{_≡_, refl, sym, ap, _∙_}
-use mathlib.Core.Logic.{_⊎_, inl, inr, ⊎-elim}
+use mathlib.Core.Logic.{_⊎_, ⊎-elim}
 use mathlib.Core.Bool.{Bool, true, false, cond, _&&_, Bool·beq}
 use mathlib.Core.List.{List, [], _∷_}
-use Prim.Native.Nat.{ℕ, zero, suc, _+_, _-_, _≤_, _<_}
+use Prim.Native.Nat.{ℕ, zero, suc, _-_, _≤_, _<_}
 use native.Mathlib.Omega.{arith}
 use lib.Dec.{eqb, ltb}
-use lib.ListN.{length, getD}
-use Rattle.std.proofs.shelf.Tests.{cases-eq, eq-eqb, ne-eqb, cond-true, cond-false, and-parts, and-from, and-left, and-right, lt-ltb, le-ltb}
+use lib.ListN.{length}
+use Rattle.std.proofs.shelf.Tests.{cases-eq, and-parts, and-from, and-left, and-right, lt-ltb, le-ltb}
 use Rattle.symbols.specs.declared.ByteTest.{ByteTest}
 use Rattle.symbols.specs.Tests.{passesByte}
-use Rattle.alphabet.specs.Asked.{asked}
-use Rattle.alphabet.specs.Numbering.{smallest, leads, howMany, member}
+use Rattle.alphabet.specs.Numbering.{smallest, leads, member}
 use Rattle.alphabet.specs.Bytes.{bytePasses, alike, byteClasses, byteClass, byteAccepts, Classified}
 use Rattle.alphabet.proofs.First.{howMany-used, howMany-le}
-use Rattle.alphabet.proofs.Asking.{asked-zero, asked-first, asked-later, asked-none}
+use Rattle.alphabet.proofs.Asking.{asked-zero, asked-later, asked-none}
 use Rattle.alphabet.proofs.Numbering.{Equivalence, smallest-like, smallest-least, class-same, class-ordered, class-apart, class-within, class-leads, member-like}
 
 beq-same : (x : Bool) → Bool·beq x x ≡ true

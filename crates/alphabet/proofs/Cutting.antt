@@ -1,7 +1,7 @@
 -- Ascending rows of cuts, how many of them are at or below a code, and which they are.
 use mathlib.Core.Path.{_≡_, refl, sym, ap, _∙_}
 use mathlib.Core.Logic.{_⊎_, inl, inr, ⊎-elim}
-use mathlib.Core.Bool.{Bool, true, false, cond, _&&_}
+use mathlib.Core.Bool.{cond, _&&_}
 use mathlib.Core.List.{List, [], _∷_}
 use Prim.Native.Nat.{ℕ, zero, suc, _+_, _-_, _*_, _≤_, _<_}
 use native.Mathlib.Omega.{arith}
@@ -9,13 +9,13 @@ use native.Mathlib.Nat.{zero-add}
 use native.Mathlib.Numerals.{one-add}
 use lib.Dec.{eqb, leb, ltb}
 use lib.ListN.{length, getD}
-use Rattle.std.specs.shelf.Lists.{All, countBy, sumBy}
+use Rattle.std.specs.shelf.Lists.{All}
 use Rattle.std.specs.Holes.{inserted}
 use Rattle.symbols.specs.declared.EventTest.{EventTest}
 use Rattle.std.proofs.shelf.Sums.{sumBy-cons, countBy-le-length}
 use Rattle.std.proofs.shelf.Elements.{all-weaker, all-getD}
-use Rattle.std.proofs.shelf.Tests.{cases-bool, cases-order, cases-lt, cases-eq, le-leb, lt-leb, lt-ltb, le-ltb, eq-eqb, ne-eqb, cond-true, cond-false, and-from, and-left, and-right}
-use Rattle.alphabet.specs.Events.{placed, cut, cutBy, cuts, atOrBelow, Ascending, Among, Bounds, Cut, lowestCode}
+use Rattle.std.proofs.shelf.Tests.{cases-order, cases-lt, cases-eq, le-leb, lt-leb, lt-ltb, le-ltb, eq-eqb, ne-eqb, cond-true, cond-false, and-from, and-left, and-right}
+use Rattle.alphabet.specs.Events.{placed, cut, cutBy, atOrBelow, Ascending, Among, Bounds, Cut, lowestCode}
 
 count-yes : (code y : ℕ) (ys : List ℕ) → y ≤ code → atOrBelow code (y ∷ ys) ≡ 1 + atOrBelow code ys
 count-yes code y ys l = sumBy-cons (λ x. cond (leb x code) 1 0) y ys ∙ ap (λ n. n + atOrBelow code ys) (cond-true (leb y code) 1 0 (le-leb y code l))

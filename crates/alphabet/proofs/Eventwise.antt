@@ -1,19 +1,18 @@
 -- The classes of events: no test tells codes of one class apart.
 use mathlib.Core.Path.{_≡_, refl, sym, ap, _∙_}
 use mathlib.Core.Logic.{_⊎_, inl, inr, ⊎-elim}
-use mathlib.Core.Bool.{Bool, true, false, not, cond, _&&_}
+use mathlib.Core.Bool.{true, false, not, cond, _&&_}
 use mathlib.Core.List.{List, [], _∷_}
-use Prim.Native.Nat.{ℕ, zero, suc, _+_, _-_, _*_, _≤_, _<_}
+use Prim.Native.Nat.{ℕ, zero, suc, _+_, _-_, _≤_, _<_}
 use native.Mathlib.Omega.{arith}
 use lib.Dec.{eqb, leb, ltb}
-use lib.ListN.{length, getD}
+use lib.ListN.{length}
 use Rattle.std.proofs.shelf.Tests.{cases-lt, cases-eq, le-leb, lt-leb, lt-ltb, le-ltb, and-left, and-right}
 use Rattle.symbols.specs.declared.EventTest.{EventTest}
 use Rattle.symbols.specs.Tests.{passesCode}
-use Rattle.alphabet.specs.Asked.{asked}
-use Rattle.alphabet.specs.Events.{cuts, atOrBelow, Ascending, Among, Bounds, lowestCode, eventPasses, eventClass, eventClasses, eventAccepts}
+use Rattle.alphabet.specs.Events.{cuts, Bounds, lowestCode, eventPasses, eventClass, eventClasses, eventAccepts}
 use Rattle.alphabet.proofs.Asking.{asked-none}
-use Rattle.alphabet.proofs.Cutting.{count-le, lowest-low, lowest-cuts, by-ascending, by-length, cut-law}
+use Rattle.alphabet.proofs.Cutting.{count-le, lowest-low, lowest-cuts, by-length, cut-law}
 
 -- below the lowest code of its class a code and that code meet the same cuts
 same-side : (ts : List EventTest) (code x : ℕ) → code < 16777216 → Bounds ts x → leb x code ≡ leb x (lowestCode (cuts ts) (eventClass ts code))

@@ -1,13 +1,13 @@
 -- Classes of numbers under any equivalence, numbered by their smallest members.
 use mathlib.Core.Path.{_≡_, refl, sym, ap, _∙_}
-use mathlib.Core.Logic.{_⊎_, inl, inr, ⊎-elim}
-use mathlib.Core.Bool.{Bool, true, false, cond}
-use Prim.Native.Nat.{ℕ, zero, suc, _+_, _≤_, _<_}
+use mathlib.Core.Logic.{_⊎_, ⊎-elim}
+use mathlib.Core.Bool.{Bool, true}
+use Prim.Native.Nat.{ℕ, _≤_, _<_}
 use native.Mathlib.Omega.{arith}
 use lib.Dec.{eqb}
-use Rattle.std.proofs.shelf.Tests.{cases-bool, cases-order, cases-lt, cases-eq, both-ways, eq-eqb, ne-eqb, eqb-true}
-use Rattle.alphabet.specs.Numbering.{first, howMany, smallest, leads, classOf, classes, member}
-use Rattle.alphabet.proofs.First.{Found, found, first-is, first-below, howMany-less}
+use Rattle.std.proofs.shelf.Tests.{cases-order, cases-lt, both-ways, eq-eqb, ne-eqb, eqb-true}
+use Rattle.alphabet.specs.Numbering.{howMany, smallest, leads, classOf, classes, member}
+use Rattle.alphabet.proofs.First.{found, first-is, first-below, howMany-less}
 
 pub record Equivalence (like : ℕ → ℕ → Bool) : Type 0 where
   pub same : (a : ℕ) → like a a ≡ true

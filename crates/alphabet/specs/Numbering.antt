@@ -1,6 +1,6 @@
 -- Numbers that are alike share a class, and the classes are numbered by their smallest members.
 use Prim.Native.Nat.{ℕ, zero, suc, _+_}
-use mathlib.Core.Bool.{Bool, true, false, cond}
+use mathlib.Core.Bool.{Bool, cond}
 use lib.Dec.{eqb}
 
 -- the first number with f among n from a on; a + n if there is none

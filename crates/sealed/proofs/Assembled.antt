@@ -8,13 +8,11 @@ use native.Mathlib.Omega.{arith}
 use native.Mathlib.Numerals.{add-one}
 use lib.ListN.{length, getD, set}
 use lib.Seq.{getD-set-same, getD-set-other}
-use Rattle.std.specs.declared.option.Option.{Option}
-use Rattle.std.specs.declared.option.Option.the-variants.{Some, None}
+use Rattle.std.specs.declared.option.Option.the-variants.{None}
 use Rattle.pattern.specs.declared.Code.{Code}
 use Rattle.pattern.specs.declared.Code.the-variants.{Atom, Join, Choice, Star, Plus, Maybe}
 use Rattle.std.proofs.shelf.Tests.{true≢false}
 use Rattle.sets.specs.Positions.{holds}
-use Rattle.theory.specs.Positions.{Positions}
 use Rattle.theory.specs.Seal.{seal, single, joined, chosen, optional, link}
 use Rattle.theory.specs.Seal as theory
 use Rattle.sealed.specs.declared.part.Part.{Part}

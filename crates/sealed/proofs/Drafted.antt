@@ -1,6 +1,5 @@
 -- What is sealed is the pattern of the draft.
 use mathlib.Core.Path.{_≡_, refl, sym, ap, _∙_}
-use mathlib.Core.Bool.{Bool, true, false, cond, _&&_}
 use mathlib.Core.List.{List, [], _∷_, _++_}
 use Prim.Native.Nat.{ℕ, _+_, _≤_}
 use native.Mathlib.Omega.{arith}
@@ -8,10 +7,8 @@ use lib.Dec.{leb}
 use lib.ListN.{length, take}
 use Rattle.std.proofs.shelf.Lists.{take-all, length-take}
 use Rattle.std.proofs.shelf.Tests.{and-from, le-leb, cond-true}
-use Rattle.std.specs.declared.option.Option.{Option}
-use Rattle.std.specs.declared.option.Option.the-variants.{Some, None}
 use Rattle.pattern.specs.declared.Code.{Code}
-use Rattle.pattern.specs.declared.Code.the-variants.{Atom, Join, Choice, Star, Plus, Maybe}
+use Rattle.pattern.specs.declared.Code.the-variants.{Join, Choice, Star, Plus, Maybe}
 use Rattle.pattern.specs.Tree.{Tree}
 use Rattle.pattern.specs.Tree.Tree.{atom, join, choice, star, plus, maybe}
 use Rattle.pattern.specs.Codes as codes

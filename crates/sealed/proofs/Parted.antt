@@ -1,10 +1,10 @@
 -- Parts by the members of their sets.
-use mathlib.Core.Path.{_≡_, refl, sym, ap, _∙_, fun-ext}
+use mathlib.Core.Path.{_≡_, ap, _∙_, fun-ext}
 use mathlib.Core.Bool.{Bool, true, false, _&&_, _||_, or-false}
 use Prim.Native.Nat.{ℕ, _<_}
 use lib.Dec.{eqb, ltb}
 use Rattle.std.proofs.shelf.Tests.{lt-ltb}
-use Rattle.sets.specs.Members.{Members, none, plus}
+use Rattle.sets.specs.Members.{none, plus}
 use Rattle.sets.specs.Positions.{width}
 use Rattle.theory.specs.Seal as seal
 

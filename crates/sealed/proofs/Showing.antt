@@ -10,8 +10,8 @@ use lib.ListN.{length, getD, set, take, drop, replicate}
 use lib.Seq.{getD-set-same, getD-set-other}
 use Rattle.std.proofs.shelf.Lists.{at-drop-more, at-drop-all, take-all}
 use Rattle.std.proofs.shelf.Tests.{true≢false, false≢true, and-parts, leb-true, cases-eq, eq-eqb, ne-eqb, cond-true, cond-false}
-use Rattle.std.specs.declared.option.Option.the-variants.{Some, None}
-use Rattle.sets.specs.Members.{Members, none}
+use Rattle.std.specs.declared.option.Option.the-variants.{None}
+use Rattle.sets.specs.Members.{none}
 use Rattle.sets.specs.Positions.{holds}
 use Rattle.sets.specs.declared.positions.PositionSet.{PositionSet}
 use Rattle.theory.specs.Positions.{Positions, positions}

@@ -1,14 +1,14 @@
 -- The step rule from the tables.
 use mathlib.Core.Path.{_≡_, refl, sym, ap, _∙_, fun-ext}
 use mathlib.Core.Logic.{_⊎_, ⊎-elim}
-use mathlib.Core.Bool.{Bool, true, false, cond, _&&_, _||_, and-comm, or-assoc, or-comm, or-false}
+use mathlib.Core.Bool.{Bool, true, false, _&&_, _||_, and-comm, or-assoc, or-false}
 use mathlib.Core.List.{List}
-use Prim.Native.Nat.{ℕ, zero, suc, _+_, _≤_, _<_}
+use Prim.Native.Nat.{ℕ, zero, suc, _≤_, _<_}
 use native.Mathlib.Omega.{arith}
-use lib.Dec.{T, eqb, ltb}
+use lib.Dec.{T, eqb}
 use lib.ListN.{getD}
 use Rattle.std.specs.Orderings.{Decides}
-use Rattle.std.proofs.shelf.Tests.{false≢true, and-parts, and-from, cases-bool, cases-eq, cases-lt, eq-eqb, ne-eqb, cond-true, cond-false, lt-ltb, le-ltb}
+use Rattle.std.proofs.shelf.Tests.{false≢true, and-parts, and-from, cases-bool, cases-lt, ne-eqb, cond-false, lt-ltb}
 use Rattle.std.specs.declared.option.Option.{Option}
 use Rattle.std.specs.declared.option.Option.the-variants.{Some, None}
 use Rattle.pattern.specs.declared.Code.{Code}

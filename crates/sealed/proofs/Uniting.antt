@@ -1,13 +1,13 @@
 -- The rows of a set's members, united from the lowest member on.
-use mathlib.Core.Path.{_≡_, refl, sym, ap, _∙_}
+use mathlib.Core.Path.{_≡_, sym, ap, _∙_}
 use mathlib.Core.Logic.{_⊎_, ⊎-elim}
-use mathlib.Core.Bool.{Bool, true, false, _&&_, _||_, or-false}
+use mathlib.Core.Bool.{Bool, false, _&&_, _||_, or-false}
 use mathlib.Core.List.{List}
 use Prim.Native.Nat.{ℕ, zero, suc, _+_, _≤_, _<_}
 use native.Mathlib.Omega.{arith}
 use native.Mathlib.Numerals.{add-one}
-use Rattle.std.proofs.shelf.Tests.{cases-eq, cases-lt}
-use Rattle.sets.specs.Members.{Members, none, either}
+use Rattle.std.proofs.shelf.Tests.{cases-eq}
+use Rattle.sets.specs.Members.{none, either}
 use Rattle.sets.specs.Positions.{holds, width, LowestFrom}
 use Rattle.sets.specs.declared.positions.PositionSet.{PositionSet}
 use Rattle.sets.proofs.Known.{holds-low}

@@ -1,6 +1,4 @@
 -- What sealing knows of the parts of a pattern while it reads the codes.
-use mathlib.Core.Bool.{Bool, _&&_, _||_}
-use Prim.Native.Nat.{ℕ}
 use Rattle.sets.specs.Positions.{holds}
 use Rattle.theory.specs.Seal as seal
 use Rattle.sealed.specs.declared.part.Part.{Part}

@@ -1,7 +1,6 @@
 // Sealing uses a draft up, and fixes its classes. No text can be read into what it gives.
 ghost use mathlib.Core.Path.{_≡_};
 ghost use mathlib.Core.Bool.{true};
-ghost use Prim.Native.Nat.{ℕ};
 ghost use Rattle.sets.specs.Positions.{holds, width};
 ghost use Rattle.theory.specs.Masks.{ahead-set, back-set, common};
 ghost use Rattle.sealed.specs.Tables.{following};

@@ -1,6 +1,6 @@
 // The bytes' answers as an alphabet.
 ghost use mathlib.Core.Path.{_≡_};
-ghost use Prim.Native.Nat.{ℕ, _<_, _≤_};
+ghost use Prim.Native.Nat.{_<_};
 ghost use lib.Dec.{ltb};
 ghost use lib.ListN.{length, take};
 ghost use Rattle.alphabet.specs.Bytes.{bytePasses, byteClasses, byteClass, byteAccepts, Classified};

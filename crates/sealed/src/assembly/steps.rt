@@ -4,7 +4,7 @@ ghost use mathlib.Core.List.{List, [], _∷_};
 ghost use mathlib.Core.Bool.{true, false};
 ghost use Prim.Native.Nat.{_+_, _<_, _≤_};
 ghost use Rattle.pattern.specs.declared.Code.{Code as Codes};
-ghost use Rattle.pattern.specs.declared.Code.the-variants.{Atom, Join, Choice, Star, Plus, Maybe};
+ghost use Rattle.pattern.specs.declared.Code.the-variants.{Atom, Join, Choice, Plus, Maybe};
 ghost use Rattle.theory.specs.Seal.{sealed, or-none};
 ghost use Rattle.sealed.specs.Assembling.{Taken, rest, atomCodes};
 use crate::assembly::Assembly;

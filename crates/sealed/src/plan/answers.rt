@@ -1,10 +1,9 @@
 // What a plan answers, and the step rule for any positions that a symbol passes.
 ghost use mathlib.Core.Path.{_≡_};
-ghost use Prim.Native.Nat.{ℕ};
 ghost use Rattle.sets.specs.Positions.{holds, width};
 ghost use Rattle.theory.specs.Masks.{ahead-set, back-set};
 ghost use Rattle.sealed.specs.Tables.{following, preceding};
-ghost use Rattle.sealed.specs.Plans.{codesOf, positionsOf, sealable, isMember};
+ghost use Rattle.sealed.specs.Plans.{positionsOf, isMember};
 use crate::plan::Plan;
 use crate::rows::row;
 use crate::rows::united;

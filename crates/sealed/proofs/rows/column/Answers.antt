@@ -1,7 +1,7 @@
 use mathlib.Core.Path.{sym, ap, _∙_}
 use native.Mathlib.Omega.{arith}
 use Rattle.sets.specs.Positions.{holds}
-use Rattle.alphabet.proofs.Passing.{none-below, with-one, without-one, all-below}
+use Rattle.alphabet.proofs.Passing.{none-below, with-one, without-one}
 use Rattle.sealed.specs.Tables.{column}
 use Rattle.sealed.proofs.Linking.{column-all}
 use Rattle.sealed.proofs.rows.column.Needs as need

@@ -1,8 +1,7 @@
-use mathlib.Core.Path.{sym, ap, _∙_}
+use mathlib.Core.Path.{sym, _∙_}
 use native.Mathlib.Omega.{arith}
-use Prim.Native.Nat.{_+_}
 use Rattle.sets.specs.Positions.{holds}
-use Rattle.sealed.proofs.Linking.{Upto, upto-none, upto-yes, upto-no, upto-all}
+use Rattle.sealed.proofs.Linking.{upto-none, upto-yes, upto-no, upto-all}
 use Rattle.sealed.proofs.rows.link_rows.Needs as need
 use Rattle.sealed.proofs.rows.link_rows.Needs.{then-has, else-has}
 

@@ -1,6 +1,6 @@
 use mathlib.Core.Path.{refl}
 use native.Mathlib.Omega.{arith}
-use Prim.Native.Nat.{_≤_, _<_}
+use Prim.Native.Nat.{_≤_}
 use Rattle.sealed.proofs.Uniting.{united-none, united-more, united-all, member-low}
 use Rattle.sealed.proofs.rows.united.Needs as need
 

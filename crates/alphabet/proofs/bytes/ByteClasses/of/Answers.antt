@@ -1,4 +1,3 @@
-use Rattle.alphabet.specs.Own.{byteTests}
 use Rattle.alphabet.proofs.Bytewise.{classified}
 use Rattle.alphabet.proofs.bytes.ByteClasses.of.Needs as need
 

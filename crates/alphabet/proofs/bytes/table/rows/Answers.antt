@@ -1,7 +1,6 @@
-use mathlib.Core.Path.{_∙_, sym, ap}
+use mathlib.Core.Path.{_∙_}
 use native.Mathlib.Omega.{arith}
-use lib.ListN.{getD, set, length-set}
-use Rattle.std.proofs.shelf.Edits.{fill-by-more}
+use lib.ListN.{length-set}
 use Rattle.alphabet.specs.Bytes.{row}
 use Rattle.alphabet.proofs.Filling.{below-set}
 use Rattle.alphabet.proofs.bytes.table.rows.Needs as need

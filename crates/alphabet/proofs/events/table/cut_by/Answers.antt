@@ -1,7 +1,5 @@
-use mathlib.Core.Path.{_≡_}
 use native.Mathlib.Omega.{arith}
-use Prim.Native.Nat.{_≤_}
-use lib.ListN.{length, take}
+use lib.ListN.{take}
 use Rattle.alphabet.specs.Events.{cuts}
 use Rattle.alphabet.proofs.Inserting.{cut-more, cut-none, ascending-low, ascending-high}
 use Rattle.alphabet.proofs.events.table.cut_by.Needs as need

@@ -1,7 +1,7 @@
 use mathlib.Core.Path.{_≡_, refl, sym, ap, _∙_}
 use native.Mathlib.Omega.{arith}
 use Prim.Native.Nat.{_+_, _-_}
-use lib.ListN.{getD, replicate, length-set}
+use lib.ListN.{getD, length-set}
 use Rattle.std.proofs.shelf.Lists.{getD-replicate}
 use Rattle.sets.specs.Positions.{holds}
 use Rattle.alphabet.specs.Events.{lowestCode, passedCode}

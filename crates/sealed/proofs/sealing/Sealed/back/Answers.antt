@@ -1,4 +1,4 @@
-use mathlib.Core.Path.{_≡_, sym, ap, _∙_, fun-ext}
+use mathlib.Core.Path.{sym, ap, _∙_, fun-ext}
 use Rattle.sets.specs.Members.{shared, below}
 use Rattle.sets.specs.Positions.{holds, width}
 use Rattle.sealed.specs.Plans.{byClass}

@@ -3,8 +3,6 @@ use native.Mathlib.Omega.{arith}
 use Rattle.pattern.specs.declared.Code.the-variants.{Atom}
 use Rattle.std.specs.declared.option.Option.the-variants.{None}
 use Rattle.theory.specs.Positions.{positions}
-use Rattle.theory.specs.Seal.{or-none}
-use Rattle.sealed.specs.Assembling.{rest}
 use Rattle.sealed.proofs.Showing.{shows-codes, none-left, atoms-more, rest-more, rest-none, rest-all}
 use Rattle.sealed.proofs.tables.Tables.of.Needs as need
 
