@@ -19,7 +19,7 @@ pub returns : need.returns
 returns c =
     record {
       length = search needs;
-      behind = behind-set (c .if-class-used .bytes) (c .args .n) 256 (c .args .class * c .args .n + c .args .place) (c .args .target) (cell-low (c .args .n) 256 (c .args .class) (c .args .place) (c .if-class-ge256 .left) (c .if-place-n .left)) (omega arith)
+      behind = behind-set (c .if-class-used .bytes) (c .args .n) 256 (c .args .class * c .args .n + c .args .place) _ (cell-low (c .args .n) 256 (c .args .class) (c .args .place) (c .if-class-ge256 .left) (c .if-place-n .left)) (omega arith)
           ∙ elim (c .if-class-used .came) [ then-class-used w ↦ ap (behind (c .args .n)) (w .bytes-is) ∙ w .widen .ensures .behind | else-class-used w ↦ ap (behind (c .args .n)) (w .bytes-is) ];
       answer = free-yes (c .args .bytes .now) (c .args .n) (c .args .used) (c .args .place) (c .args .class) (c .args .target) (c .if-place-n .left) (c .if-class-ge256 .left) (c .if-target-n .left) (sym (c .look-up .ensures) ∙ c .in-rest .is);
       map = elim (c .if-class-used .came) [
