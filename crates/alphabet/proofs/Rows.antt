@@ -17,7 +17,8 @@ use Rattle.sets.specs.declared.positions.PositionSet.{PositionSet}
 use Rattle.symbols.specs.declared.ByteTest.{ByteTest}
 use Rattle.symbols.specs.Tests.{passesByte}
 use Rattle.alphabet.specs.Numbering.{first, howMany, smallest, leads, member}
-use Rattle.alphabet.specs.Bytes.{alike, byteClass, byteClasses, row, passedByte, FirstLike}
+use Rattle.alphabet.specs.Bytes.{alike, byteClass, byteClasses}
+use Rattle.alphabet.specs.ByteTables.{row, passedByte, FirstLike}
 use Rattle.alphabet.proofs.Filling.{below-kept, below-set}
 use Rattle.alphabet.proofs.First.{first-is, howMany-yes, howMany-no, howMany-le}
 use Rattle.alphabet.proofs.Numbering.{smallest-like, class-same, class-leads, member-is}

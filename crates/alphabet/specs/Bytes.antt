@@ -1,16 +1,11 @@
 -- The classes of bytes under a draft's tests.
-use Prim.Native.Nat.{ℕ, _+_, _*_, _<_, _≤_}
+use Prim.Native.Nat.{ℕ, _<_, _≤_}
 use mathlib.Core.Path.{_≡_}
-use mathlib.Core.Bool.{Bool, true, _&&_, cond, Bool·beq}
+use mathlib.Core.Bool.{Bool, true, _&&_, Bool·beq}
 use mathlib.Core.List.{List, [], _∷_}
 use lib.Dec.{ltb}
-use lib.ListN.{getD}
-use Rattle.sets.specs.Members.{Members, shared, below}
-use Rattle.sets.specs.Positions.{holds, width}
 use Rattle.symbols.specs.declared.ByteTest.{ByteTest}
 use Rattle.symbols.specs.Tests.{passesByte}
-use Rattle.std.specs.Iters.{folded}
-use Rattle.alphabet.specs.declared.bytes.table.ByteTable.{ByteTable}
 use Rattle.alphabet.specs.Asked.{asked}
 use Rattle.alphabet.specs.Numbering.{smallest, classOf, classes, member}
 
@@ -33,33 +28,7 @@ byteClass ts b = classOf (alike ts) b
 abbrev pub byteAccepts : List ByteTest → ℕ → ℕ → Bool
 byteAccepts ts c k = ltb c (byteClasses ts) && bytePasses ts k (member (alike ts) 256 c)
 
--- the tests that a byte passes, as a set
-abbrev pub byteAnswers : List ByteTest → ℕ → Members
-byteAnswers ts b = asked (λ t. passesByte t b) ts
-
--- as far as a set of positions can hold them
-abbrev pub passedByte : List ByteTest → ℕ → Members
-passedByte ts b = shared (below width) (byteAnswers ts b)
-
--- the table has the number of classes and the class of each byte
-abbrev pub Tabled : List ByteTest → ByteTable → Type 0
-Tabled ts table = (table .classes ≡ byteClasses ts) × ((b : ℕ) → b < 256 → getD (table .class) b 0 ≡ byteClass ts b)
-
--- it has the tests that each class passes
-abbrev pub Told : List ByteTest → ByteTable → Type 0
-Told ts table = (c k : ℕ) → c < byteClasses ts → holds (getD (table .passing) c (record { bits = 0 })) k ≡ passedByte ts (member (alike ts) 256 c) k
-
--- the answers of the tests to a byte, as the digits of a number to the base 2
-abbrev pub row : List ByteTest → ℕ → ℕ
-row ts b = folded (λ n t. n * 2 + cond (passesByte t b) 1 0) 0 ts
-
--- r is the first place at which rows has what it has at b
-pub record FirstLike (rows : List ℕ) (b r : ℕ) : Type 0 where
-  pub low : r ≤ b
-  pub like : getD rows r 0 ≡ getD rows b 0
-  pub first : (a : ℕ) → a < r → getD rows a 0 ≡ getD rows b 0 → ⊥
-
--- THE LAW of the classes of bytes, which settles every number of a class
+-- The law of the classes of bytes, which settles the number of every class
 pub record Classified (ts : List ByteTest) : Type 0 where
   -- bytes that every test treats alike share a class ..
   pub together : (a b : ℕ) → a < 256 → b < 256 → ((k : ℕ) → bytePasses ts k a ≡ bytePasses ts k b) → byteClass ts a ≡ byteClass ts b

@@ -1,17 +1,14 @@
 -- The classes of events under a draft's tests: the tests' ranges cut the codes, and a class is what lies between two cuts.
-use Prim.Native.Nat.{ℕ, _+_, _-_, _*_, _<_, _≤_}
+use Prim.Native.Nat.{ℕ, _+_, _-_, _<_}
 use mathlib.Core.Path.{_≡_}
 use mathlib.Core.Logic.{_⊎_}
 use mathlib.Core.Bool.{Bool, _&&_, cond}
 use mathlib.Core.List.{List, [], _∷_}
 use lib.Dec.{eqb, leb, ltb}
-use lib.ListN.{length, getD, take}
+use lib.ListN.{length, getD}
 use Rattle.std.specs.shelf.Lists.{All, countBy}
-use Rattle.sets.specs.Members.{Members, shared, below}
-use Rattle.sets.specs.Positions.{holds, width}
 use Rattle.symbols.specs.declared.EventTest.{EventTest}
 use Rattle.symbols.specs.Tests.{passesCode}
-use Rattle.alphabet.specs.declared.events.table.CutTable.{CutTable}
 use Rattle.alphabet.specs.Asked.{asked}
 
 -- x put into its place in an ascending row, unless it is there
@@ -45,14 +42,6 @@ eventClasses ts = length (cuts ts) + 1
 abbrev pub eventPasses : List EventTest → ℕ → ℕ → Bool
 eventPasses ts k code = asked (λ t. passesCode t code) ts k
 
--- the tests that it passes, as a set
-abbrev pub eventAnswers : List EventTest → ℕ → Members
-eventAnswers ts code = asked (λ t. passesCode t code) ts
-
--- as far as a set of positions can hold them
-abbrev pub passedCode : List EventTest → ℕ → Members
-passedCode ts code = shared (below width) (eventAnswers ts code)
-
 -- the lowest code of class c: the cut below it, or 0
 abbrev pub lowestCode : List ℕ → ℕ → ℕ
 lowestCode cs c = cond (eqb c 0) 0 (getD cs (c - 1) 0)
@@ -75,21 +64,8 @@ abbrev pub Bounds : List EventTest → ℕ → Type 0
 Bounds [] x = ⊥
 Bounds (t ∷ ts) x = ((t .low ≡ x) ⊎ (t .high + 1 ≡ x)) ⊎ Bounds ts x
 
--- THE LAW of the cuts, which settles them
+-- The law of the cuts, which settles them
 pub record Cut (ts : List EventTest) : Type 0 where
   pub ascending : Ascending (cuts ts)
   pub every : (x : ℕ) → 0 < x → x < 16777216 → Bounds ts x → Among x (cuts ts)
   pub only : (x : ℕ) → Among x (cuts ts) → (0 < x) × (x < 16777216) × Bounds ts x
-
--- the table has the cuts, and for each kind the classes of its lowest and of its highest code
-abbrev pub CutRight : List EventTest → CutTable → Type 0
-CutRight ts table =
-    (table .count ≤ 126)
-    × (table .count ≡ length (cuts ts))
-    × (take (table .count) (table .codes) ≡ cuts ts)
-    × ((k : ℕ) → k < 256 → getD (table .lowest) k 0 ≡ eventClass ts (k * 65536 + 0))
-    × ((k : ℕ) → k < 256 → getD (table .highest) k 0 ≡ eventClass ts (k * 65536 + 65535))
-
--- it has the tests that each class passes
-abbrev pub CutTold : List EventTest → CutTable → Type 0
-CutTold ts table = (c k : ℕ) → c < eventClasses ts → holds (getD (table .passing) c (record { bits = 0 })) k ≡ passedCode ts (lowestCode (cuts ts) c) k

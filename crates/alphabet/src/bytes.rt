@@ -2,7 +2,7 @@
 // and the classes are numbered by their smallest bytes.
 ghost use Prim.Native.Nat.{_≤_};
 ghost use lib.ListN.{take};
-ghost use Rattle.alphabet.specs.Bytes.{Tabled, Told};
+ghost use Rattle.alphabet.specs.ByteTables.{Tabled, Told};
 
 mod answers;
 mod table;

@@ -2,7 +2,7 @@
 // moments are not looked at.
 ghost use Prim.Native.Nat.{_≤_};
 ghost use lib.ListN.{take};
-ghost use Rattle.alphabet.specs.Events.{CutRight, CutTold};
+ghost use Rattle.alphabet.specs.EventTables.{CutRight, CutTold};
 
 mod answers;
 mod table;

@@ -1,12 +1,15 @@
 -- What is sealed is the pattern of the draft.
 use mathlib.Core.Path.{_≡_, refl, sym, ap, _∙_}
+use mathlib.Core.Bool.{true}
 use mathlib.Core.List.{List, [], _∷_, _++_}
 use Prim.Native.Nat.{ℕ, _+_, _≤_}
 use native.Mathlib.Omega.{arith}
 use lib.Dec.{leb}
 use lib.ListN.{length, take}
 use Rattle.std.proofs.shelf.Lists.{take-all, length-take}
-use Rattle.std.proofs.shelf.Tests.{and-from, le-leb, cond-true}
+use Rattle.std.proofs.shelf.Tests.{and-from, and-parts, leb-true, le-leb, cond-true}
+use Rattle.std.specs.declared.option.Option.{Option}
+use Rattle.std.specs.declared.option.Option.the-variants.{Some, None}
 use Rattle.pattern.specs.declared.Code.{Code}
 use Rattle.pattern.specs.declared.Code.the-variants.{Join, Choice, Star, Plus, Maybe}
 use Rattle.pattern.specs.Tree.{Tree}
@@ -14,6 +17,7 @@ use Rattle.pattern.specs.Tree.Tree.{atom, join, choice, star, plus, maybe}
 use Rattle.pattern.specs.Codes as codes
 use Rattle.pattern.specs.Codes.{tree, TreeOf, count}
 use Rattle.pattern.proofs.Codes.{tree-is}
+use Rattle.theory.specs.Positions.{atoms}
 use Rattle.sealed.specs.Assembling.{atomCodes}
 use Rattle.sealed.specs.Plans.{fits, sealable, Sealed-of}
 use Rattle.sealed.proofs.Showing.{atoms-cons}
@@ -32,6 +36,14 @@ atoms-tree (choice l r) =
 atoms-tree (star t) = let x = atoms-append (codes.codesOf t) (Star ∷ []) in let a = atoms-tree t in omega arith
 atoms-tree (plus t) = let x = atoms-append (codes.codesOf t) (Plus ∷ []) in let a = atoms-tree t in omega arith
 atoms-tree (maybe t) = let x = atoms-append (codes.codesOf t) (Maybe ∷ []) in let a = atoms-tree t in omega arith
+
+-- so a pattern has as many atoms as its codes
+few-atoms : (cs : List Code) (o : Option Tree) → tree cs ≡ o → atomCodes cs ≤ 63 → atoms o ≤ 63
+few-atoms cs None e l = omega arith
+few-atoms cs (Some t) e l = let h : atomCodes cs ≡ count t = ap atomCodes (sym (tree-is cs t .0 e .0)) ∙ atoms-tree t in omega arith
+
+pub few-kept : (cs ds : List Code) → ds ≡ cs → fits cs ≡ true → atoms (tree ds) ≤ 63
+few-kept cs ds e h = few-atoms ds (tree ds) refl (rw e (leb-true (atomCodes cs) 63 (and-parts (leb (length cs) 1023) (leb (atomCodes cs) 63) h .1)))
 
 fits-tree : (cs : List Code) (t : Tree) → length cs ≤ 1023 → TreeOf cs t → count t ≤ 63 → sealable cs ≡ cs
 fits-tree cs t l h few =

@@ -19,7 +19,7 @@ use Rattle.sealed.specs.Assembling.{atomCodes}
 abbrev pub codesOf : Plan → List Code
 codesOf p = take (p .used) (p .codes)
 
--- the pattern; none without words has a tree
+-- the pattern's tree; codes that are of no tree, as those of an empty draft, have none
 abbrev pub treeOf : Plan → Option Tree
 treeOf p = tree (codesOf p)
 

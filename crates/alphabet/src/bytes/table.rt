@@ -3,7 +3,7 @@ ghost use mathlib.Core.Path.{_≡_};
 ghost use Prim.Native.Nat.{ℕ, _<_, _≤_};
 ghost use lib.ListN.{length, getD};
 ghost use Rattle.sets.specs.Positions.{holds};
-ghost use Rattle.alphabet.specs.Bytes.{Tabled, Told, row, passedByte, FirstLike};
+ghost use Rattle.alphabet.specs.ByteTables.{Tabled, Told, row, passedByte, FirstLike};
 use sets::PositionSet;
 use symbols::ByteTest;
 

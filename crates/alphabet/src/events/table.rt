@@ -3,7 +3,8 @@ ghost use mathlib.Core.Path.{_≡_};
 ghost use Prim.Native.Nat.{ℕ, _+_, _*_, _<_, _≤_};
 ghost use lib.ListN.{length, take, getD};
 ghost use Rattle.sets.specs.Positions.{holds};
-ghost use Rattle.alphabet.specs.Events.{placed, cut, cuts, atOrBelow, lowestCode, passedCode, Ascending, CutRight, CutTold};
+ghost use Rattle.alphabet.specs.Events.{placed, cut, cuts, atOrBelow, lowestCode, Ascending};
+ghost use Rattle.alphabet.specs.EventTables.{passedCode, CutRight, CutTold};
 use sets::PositionSet;
 use symbols::EventTest;
 

@@ -1,6 +1,6 @@
 use mathlib.Core.Path.{ap, _∙_}
 use Rattle.std.proofs.shelf.Lists.{take-all}
-use Rattle.alphabet.specs.Bytes.{row}
+use Rattle.alphabet.specs.ByteTables.{row}
 use Rattle.alphabet.proofs.Rows.{row-more}
 use Rattle.alphabet.proofs.bytes.table.row.Needs as need
 

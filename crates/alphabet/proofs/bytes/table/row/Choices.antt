@@ -1,7 +1,7 @@
 use mathlib.Core.Path.{_≡_}
 use Prim.Native.Nat.{_<_, _^_}
 use lib.ListN.{take}
-use Rattle.alphabet.specs.Bytes.{row}
+use Rattle.alphabet.specs.ByteTables.{row}
 use Rattle.alphabet.proofs.bytes.table.row.Given as given
 
 abbrev pub Inv-loop-test : given.InvT-loop-test

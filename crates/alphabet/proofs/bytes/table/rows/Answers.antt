@@ -1,7 +1,7 @@
 use mathlib.Core.Path.{_∙_}
 use native.Mathlib.Omega.{arith}
 use lib.ListN.{length-set}
-use Rattle.alphabet.specs.Bytes.{row}
+use Rattle.alphabet.specs.ByteTables.{row}
 use Rattle.alphabet.proofs.Filling.{below-set}
 use Rattle.alphabet.proofs.bytes.table.rows.Needs as need
 

@@ -1,7 +1,7 @@
 use mathlib.Core.Path.{_≡_}
 use Prim.Native.Nat.{ℕ, _<_}
 use lib.ListN.{length, getD}
-use Rattle.alphabet.specs.Bytes.{row}
+use Rattle.alphabet.specs.ByteTables.{row}
 use Rattle.alphabet.proofs.bytes.table.rows.Given as given
 
 abbrev pub Inv-loop-byte : given.InvT-loop-byte

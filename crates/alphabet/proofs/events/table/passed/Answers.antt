@@ -4,7 +4,8 @@ use Prim.Native.Nat.{_+_, _-_}
 use lib.ListN.{getD, length-set}
 use Rattle.std.proofs.shelf.Lists.{getD-replicate}
 use Rattle.sets.specs.Positions.{holds}
-use Rattle.alphabet.specs.Events.{lowestCode, passedCode}
+use Rattle.alphabet.specs.Events.{lowestCode}
+use Rattle.alphabet.specs.EventTables.{passedCode}
 use Rattle.alphabet.proofs.Cutting.{lowest-zero, lowest-cut}
 use Rattle.alphabet.proofs.Filling.{below-kept}
 use Rattle.alphabet.proofs.Rows.{blank}

@@ -7,7 +7,8 @@ use Rattle.std.proofs.shelf.Lists.{length-take, length-take-le}
 use Rattle.sets.specs.Positions.{holds}
 use Rattle.sets.specs.declared.positions.PositionSet.{PositionSet}
 use Rattle.symbols.specs.declared.EventTest.{EventTest}
-use Rattle.alphabet.specs.Events.{cuts, atOrBelow, lowestCode, passedCode}
+use Rattle.alphabet.specs.Events.{cuts, atOrBelow, lowestCode}
+use Rattle.alphabet.specs.EventTables.{passedCode}
 use Rattle.alphabet.proofs.Rows.{blank}
 use Rattle.alphabet.proofs.Inserting.{ascending-cuts}
 use Rattle.alphabet.proofs.events.table.tabulate.Needs as need

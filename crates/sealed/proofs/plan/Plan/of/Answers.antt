@@ -5,6 +5,7 @@ use Rattle.std.proofs.shelf.Tests.{cond-true}
 use Rattle.pattern.specs.declared.Code.the-variants.{Atom}
 use Rattle.alphabet.proofs.Filling.{copied-more}
 use Rattle.sealed.specs.Plans.{fits}
+use Rattle.sealed.proofs.Drafted.{few-kept}
 use Rattle.sealed.proofs.Showing.{copied-all, shows-at, short}
 use Rattle.sealed.proofs.plan.Plan.of.Needs as need
 
@@ -20,7 +21,11 @@ loop-i-again c =
 pub ghost-result : need.ghost-result
 ghost-result c =
     let l = c .loop-i in
-    (shows-at (c .args .codes .now) (take (length (c .args .codes .now)) (l .own)) (c .of-tables .result) (copied-all (l .own) (c .args .codes .now) (l .i) (omega arith) (l .inv .1)) (c .of-tables .ensures), tt)
+    let cs = c .args .codes .now in
+    let e = copied-all (l .own) cs (l .i) (omega arith) (l .inv .1) in
+    let few = few-kept cs (take (length cs) (l .own)) e (sym (c .if-not-within-limits .ensures tt)) in
+    let shows = shows-at cs (take (length cs) (l .own)) (c .of-tables .result) e (c .of-tables .ensures) in
+    (few, (shows, tt))
 
 pub returns : need.returns
 returns c =

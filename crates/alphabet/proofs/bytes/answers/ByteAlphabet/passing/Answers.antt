@@ -2,7 +2,8 @@ use mathlib.Core.Path.{refl, _∙_}
 use native.Mathlib.Omega.{arith}
 use Prim.Native.Nat.{_<_}
 use Rattle.alphabet.specs.Numbering.{member}
-use Rattle.alphabet.specs.Bytes.{alike, byteAnswers, byteAccepts, byteClasses}
+use Rattle.alphabet.specs.Bytes.{alike, byteAccepts, byteClasses}
+use Rattle.alphabet.specs.ByteTables.{byteAnswers}
 use Rattle.alphabet.specs.Own.{byteTests}
 use Rattle.alphabet.proofs.Bytewise.{bytes-few, bytes-answer, bytes-unclassed}
 use Rattle.alphabet.proofs.Passing.{passing-known, passing-none}

@@ -1,7 +1,8 @@
 use mathlib.Core.Path.{refl, _∙_}
 use native.Mathlib.Omega.{arith}
 use Prim.Native.Nat.{_<_}
-use Rattle.alphabet.specs.Events.{cuts, lowestCode, eventAnswers, eventAccepts, eventClasses}
+use Rattle.alphabet.specs.Events.{cuts, lowestCode, eventAccepts, eventClasses}
+use Rattle.alphabet.specs.EventTables.{eventAnswers}
 use Rattle.alphabet.specs.Own.{eventTests}
 use Rattle.alphabet.proofs.Eventwise.{events-answer, events-unclassed}
 use Rattle.alphabet.proofs.Passing.{passing-known, passing-none}
