@@ -28,7 +28,7 @@ def spans(found):
 
 class Session:
     def __init__(self):
-        self.draft, self.sealed, self.searcher, self.record = None, None, None, None
+        self.draft, self.sealed, self.searcher, self.record = ("bytes", [], []), None, None, None
 
     def pattern(self, kind, text):
         self.draft = (kind, [], [])
@@ -37,12 +37,12 @@ class Session:
         return f"accepted atoms {len(tests)} codes {' '.join(codes)}"
 
     def test(self, number):
-        kind, tests, _ = self.draft or ("bytes", [], [])
+        kind, tests, _ = self.draft
         return show_test(kind, tests[number - 1]) if 1 <= number <= len(tests) else "no test"
 
     def seal(self):
         kind, tests, codes = self.draft
-        self.draft = None
+        self.draft = (kind, [], [])
         self.sealed = Stepper(Alphabet(kind, tests), Positions(codes))
         nullable = "yes" if self.sealed.positions.nullable else "no"
         return f"sealed classes {self.sealed.alphabet.classes} nullable {nullable}"
@@ -50,6 +50,11 @@ class Session:
     def class_of(self, word):
         symbol = int(word) if self.sealed.alphabet.kind == "bytes" else event(word)
         return f"class {self.sealed.alphabet.class_of(symbol)}"
+
+    def positions(self):
+        p = self.sealed.positions
+        rows = [("first", p.first), ("last", p.last)] + [(f"follow {q}:", p.follow[q]) for q in range(1, p.atoms + 1)]
+        return " ".join(" ".join([word, *map(str, sorted(row))]) for word, row in rows)
 
     def open(self, words):
         shelf = dense(int(words[1])) if words[0] == b"dense" else pair()
@@ -91,6 +96,8 @@ class Session:
             return self.class_of(rest)
         if word == b"passes":
             return "yes" if self.sealed.alphabet.class_passes(int(words[0]), int(words[1])) else "no"
+        if word == b"positions":
+            return self.positions()
         if word == b"open":
             return self.open(words)
         if word == b"record":

@@ -13,13 +13,19 @@ use Rattle.script.specs.Numbers.{numberOf}
 use Rattle.script.specs.declared.command.Kind.{Kind}
 use Rattle.script.specs.declared.command.Form.{Form}
 use Rattle.script.specs.declared.command.Verb.{Verb}
-use Rattle.script.specs.declared.command.Verb.the-variants.{Pattern as PatternV, Test as TestV}
+use Rattle.script.specs.declared.command.Verb.the-variants.{Pattern as PatternV, Test as TestV, Seal as SealV, Class as ClassV, Passes as PassesV, Positions as PositionsV}
 use Rattle.script.specs.declared.command.Command.{Command}
-use Rattle.script.specs.declared.command.Command.the-variants.{Pattern as PatternC, Test as TestC}
+use Rattle.script.specs.declared.command.Command.the-variants.{Pattern as PatternC, Test as TestC, Seal as SealC, Class as ClassC, Passes as PassesC, Positions as PositionsC}
 use Rattle.script.specs.declared.command.Mistake.{Mistake}
 
 abbrev pub verbOf : List ℕ → Option Verb
-verbOf w = cond (same w (codes "pattern")) (Some Verb.Pattern) (cond (same w (codes "test")) (Some Verb.Test) None)
+verbOf w =
+    cond (same w (codes "pattern")) (Some Verb.Pattern)
+    (cond (same w (codes "test")) (Some Verb.Test)
+    (cond (same w (codes "seal")) (Some Verb.Seal)
+    (cond (same w (codes "class")) (Some Verb.Class)
+    (cond (same w (codes "passes")) (Some Verb.Passes)
+    (cond (same w (codes "positions")) (Some Verb.Positions) None)))))
 
 abbrev pub form : Kind → Bool → Form
 form k h = record { kind = k; hex = h }
@@ -36,6 +42,10 @@ pub data Asked : Type 0 where
   nothing : Asked
   pattern : Form → List ℕ → Asked
   test : ℕ → Asked
+  seal : Asked
+  class : List ℕ → Asked
+  passes : ℕ → ℕ → Asked
+  positions : Asked
   wrong : Mistake → Asked
 
 -- a comment
@@ -61,9 +71,29 @@ testBy None = wrong Mistake.BadNumber
 abbrev pub askedTest : List ℕ → Asked
 askedTest rest = testBy (numberOf (trimmed rest))
 
+abbrev pub passesBy : Option ℕ → Option ℕ → Asked
+passesBy None t = wrong Mistake.BadNumber
+passesBy (Some c) None = wrong Mistake.BadNumber
+passesBy (Some c) (Some t) = passes c t
+
+abbrev pub askedPasses : List ℕ → Asked
+askedPasses rest = passesBy (numberOf (upTo 32 rest)) (numberOf (trimmed (past 32 rest)))
+
+-- a command of one word, behind which nothing stands
+abbrev pub bareBy : Asked → List ℕ → Asked
+bareBy a [] = a
+bareBy a (x ∷ xs) = wrong Mistake.Surplus
+
+abbrev pub askedBare : Asked → List ℕ → Asked
+askedBare a rest = bareBy a (trimmed rest)
+
 abbrev pub askedBy : Option Verb → List ℕ → Asked
 askedBy (Some PatternV) rest = askedPattern rest
 askedBy (Some TestV) rest = askedTest rest
+askedBy (Some SealV) rest = askedBare seal rest
+askedBy (Some ClassV) rest = class (trimmed rest)
+askedBy (Some PassesV) rest = askedPasses rest
+askedBy (Some PositionsV) rest = askedBare positions rest
 askedBy None rest = wrong Mistake.UnknownCommand
 
 -- what a line asks for: its first word says which command, and the rest, raw, what it is about
@@ -73,6 +103,10 @@ asked line = cond (passedOver line) nothing (askedBy (verbOf (upTo 32 (trimmed l
 abbrev pub contents : Command → Asked
 contents (PatternC f text) = pattern f (text .now)
 contents (TestC k) = test k
+contents SealC = seal
+contents (ClassC text) = class (text .now)
+contents (PassesC c t) = passes c t
+contents PositionsC = positions
 
 abbrev pub toldCommand : Result Command Mistake → Asked
 toldCommand (Ok c) = contents c

@@ -1,6 +1,6 @@
 // A line of a script as a command.
 ghost use mathlib.Core.Path.{_≡_};
-ghost use Rattle.script.specs.Commands.{verbOf, formOf, passedOver, patternBy, askedPattern, askedTest, asked, toldCommand, told};
+ghost use Rattle.script.specs.Commands.{verbOf, formOf, passedOver, patternBy, askedPattern, askedTest, askedPasses, askedBare, asked, contents, toldCommand, told};
 use crate::number::number;
 use crate::words::before;
 use crate::words::behind;
@@ -25,6 +25,10 @@ pub struct Form {
 pub enum Verb {
     Pattern,
     Test,
+    Seal,
+    Class,
+    Passes,
+    Positions,
 }
 
 // What a line asks for; texts stay bytes of the line.
@@ -32,6 +36,12 @@ pub enum Verb {
 pub enum Command<'a> {
     Pattern(Form, &'a [u8]),
     Test(u64),
+    Seal,
+    // The symbol, in the way of the sealed pattern's alphabet.
+    Class(&'a [u8]),
+    // A class and a test.
+    Passes(u64, u64),
+    Positions,
 }
 
 // What can be wrong with a line.
@@ -40,6 +50,7 @@ pub enum Mistake {
     UnknownCommand,
     UnknownNotation,
     BadNumber,
+    Surplus,
 }
 
 fn verb_of(word: &[u8]) -> Option<Verb>
@@ -49,6 +60,14 @@ fn verb_of(word: &[u8]) -> Option<Verb>
         Some(Verb::Pattern)
     } else if is_word(word, b"test") {
         Some(Verb::Test)
+    } else if is_word(word, b"seal") {
+        Some(Verb::Seal)
+    } else if is_word(word, b"class") {
+        Some(Verb::Class)
+    } else if is_word(word, b"passes") {
+        Some(Verb::Passes)
+    } else if is_word(word, b"positions") {
+        Some(Verb::Positions)
     } else {
         None
     }
@@ -108,6 +127,29 @@ fn parse_test(rest: &[u8]) -> Result<Command<'_>, Mistake>
     }
 }
 
+fn parse_passes(rest: &[u8]) -> Result<Command<'_>, Mistake>
+    ensures { λ r. ⌜ toldCommand r ≡ askedPasses (now (rest .entry)) ⌝ }
+{
+    match (
+        number(before(rest, b' ')),
+        number(trimmed(behind(rest, b' '))),
+    ) {
+        (Some(class), Some(test)) => Ok(Command::Passes(class, test)),
+        _ => Err(Mistake::BadNumber),
+    }
+}
+
+// A command of one word.
+fn parse_bare<'a>(command: Command<'a>, rest: &[u8]) -> Result<Command<'a>, Mistake>
+    ensures { λ r. ⌜ toldCommand r ≡ askedBare (contents (command .entry)) (now (rest .entry)) ⌝ }
+{
+    if trimmed(rest).len() == 0 {
+        Ok(command)
+    } else {
+        Err(Mistake::Surplus)
+    }
+}
+
 // What the line asks for, if it asks for anything.
 pub fn parse_line(line: &[u8]) -> Result<Option<Command<'_>>, Mistake>
     ensures { λ r. ⌜ told r ≡ asked (now (line .entry)) ⌝ }
@@ -119,6 +161,10 @@ pub fn parse_line(line: &[u8]) -> Result<Option<Command<'_>>, Mistake>
     match verb_of(before(trimmed(line), b' ')) {
         Some(Verb::Pattern) => Ok(Some(parse_pattern(rest)?)),
         Some(Verb::Test) => Ok(Some(parse_test(rest)?)),
+        Some(Verb::Seal) => Ok(Some(parse_bare(Command::Seal, rest)?)),
+        Some(Verb::Class) => Ok(Some(Command::Class(trimmed(rest)))),
+        Some(Verb::Passes) => Ok(Some(parse_passes(rest)?)),
+        Some(Verb::Positions) => Ok(Some(parse_bare(Command::Positions, rest)?)),
         None => Err(Mistake::UnknownCommand),
     }
 }

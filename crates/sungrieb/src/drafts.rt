@@ -15,12 +15,8 @@ pub struct Drafts {
 impl Drafts {
     pub fn new() -> Drafts {
         Drafts {
-            bytes: Draft::new(ByteTest::none()),
-            events: Draft::new(EventTest {
-                low: 0,
-                high: 0,
-                inverted: false,
-            }),
+            bytes: Drafts::no_bytes(),
+            events: Drafts::no_events(),
             last: Kind::Bytes,
         }
     }
@@ -31,5 +27,26 @@ impl Drafts {
             Kind::Bytes => reader::read_bytes(&mut self.bytes, text),
             Kind::Events => reader::read_events(&mut self.events, text),
         }
+    }
+
+    // Takes the draft, and leaves an empty one.
+    pub fn take_bytes(&mut self) -> Draft<ByteTest> {
+        std::mem::replace(&mut self.bytes, Drafts::no_bytes())
+    }
+
+    pub fn take_events(&mut self) -> Draft<EventTest> {
+        std::mem::replace(&mut self.events, Drafts::no_events())
+    }
+
+    fn no_bytes() -> Draft<ByteTest> {
+        Draft::new(ByteTest::none())
+    }
+
+    fn no_events() -> Draft<EventTest> {
+        Draft::new(EventTest {
+            low: 0,
+            high: 0,
+            inverted: false,
+        })
     }
 }

@@ -15,5 +15,9 @@ The commands of a script, one a line; blank lines and lines that begin with # ar
   pattern bytes-hex HEX   the same, with the text in hexadecimal digits
   pattern events-hex HEX
   test K                  the K-th test of the pattern read last
+  seal                    fix the classes and positions of that pattern; its draft is used up
+  class SYMBOL            the class of a byte (in decimal) or of an event (KIND:VALUE@MOMENT)
+  passes CLASS TEST       whether the symbols of a class pass a test
+  positions               the sealed pattern's first and last positions, and what follows each
 
 A run sheet has a pattern on each line: NAME bytes TEXT, or NAME events TEXT.";

@@ -7,6 +7,7 @@ mod drafts;
 mod failure;
 mod help;
 mod lines;
+mod sealing;
 mod session;
 mod show;
 

@@ -4,6 +4,7 @@ use crate::failure::Failure;
 use crate::failure::FailureFromAllocError;
 use crate::lines::Answers;
 use crate::lines::Out;
+use crate::sealing::Pattern;
 use crate::show;
 use script::command;
 use script::command::Command;
@@ -18,6 +19,7 @@ pub struct Session {
     drafts: Drafts,
     // The text of a pattern that is given in hexadecimal digits.
     text: Vec<u8>,
+    sealed: Pattern,
 }
 
 impl Session {
@@ -25,6 +27,7 @@ impl Session {
         Session {
             drafts: Drafts::new(),
             text: Vec::new(heap),
+            sealed: Pattern::Unsealed,
         }
     }
 
@@ -55,6 +58,11 @@ impl Session {
             Kind::Events => show::event_test(self.drafts.events.test(k), out),
         }
     }
+
+    fn seal(&mut self, number: u64, out: &mut Out) -> Result<(), Failure> {
+        self.sealed = Pattern::seal(&mut self.drafts);
+        self.sealed.show_sealed(number, out)
+    }
 }
 
 fn read_pattern(
@@ -76,6 +84,12 @@ pub impl Answers for Session as SessionAnswers {
             Ok(None) => Ok(()),
             Ok(Some(Command::Pattern(form, text))) => self.pattern(number, form, text, out),
             Ok(Some(Command::Test(k))) => self.test(k, out),
+            Ok(Some(Command::Seal)) => self.seal(number, out),
+            Ok(Some(Command::Class(symbol))) => self.sealed.show_class(number, symbol, out),
+            Ok(Some(Command::Passes(class, test))) => {
+                self.sealed.show_passes(number, class, test, out)
+            }
+            Ok(Some(Command::Positions)) => self.sealed.show_positions(number, out),
             Err(mistake) => show::wrong_line(number, show::mistake(mistake), out),
         }
     }

@@ -89,10 +89,15 @@ pub fn wrong_line(number: u64, words: &str, out: &mut Out) -> Result<(), Failure
 
 pub fn mistake(mistake: Mistake) -> &'static str {
     match mistake {
-        Mistake::UnknownCommand => "unknown command; the commands are pattern and test",
+        Mistake::UnknownCommand => "unknown command; sungrieb --help has the commands",
         Mistake::UnknownNotation => "behind pattern comes bytes, events, bytes-hex or events-hex",
-        Mistake::BadNumber => "behind test comes a number",
+        Mistake::Surplus => "nothing comes behind this command",
+        Mistake::BadNumber => "a number is missing, or something else stands in its place",
     }
+}
+
+pub fn yes_or_no(yes: bool) -> &'static str {
+    if yes { "yes" } else { "no" }
 }
 
 // What a refusal says to people.
