@@ -1,0 +1,11 @@
+pub mod Views
+pub mod Noting
+pub mod Moves
+pub mod Turns
+pub mod Scans
+pub mod Rides
+pub mod Ends
+pub mod Doing
+pub mod Listings
+pub mod Runs
+pub mod Sealing
