@@ -1,5 +1,7 @@
 // An alphabet puts the symbols of a record into at most 256 classes, so that symbols of one class pass the same tests.
 // A search looks at classes alone, and is right over every alphabet by the law below.
+#![tactic(auto)]
+
 ghost use Rattle.std.specs.Prelude.{◌≡◌, ℕ, ◌<◌, ◌≤◌, Bool, true, false, ◌⊎◌};
 ghost use Rattle.sets.specs.Members.{shared, below};
 ghost use Rattle.sets.specs.Positions.{holds, width};

@@ -4,6 +4,8 @@
 //
 // PATTERN and RECORD are files. `records` searches each 20 symbols for themselves. What was found goes to standard output,
 // and the time of the fastest round to standard error.
+#![tactic(auto)]
+
 mod input;
 mod job;
 mod search_work;

@@ -1,5 +1,7 @@
 // Bytes as symbols. Two bytes share a class exactly when every test treats them alike,
 // and the classes are numbered by their smallest bytes.
+#![tactic(auto)]
+
 ghost use Rattle.std.specs.Prelude.{◌≤◌, take};
 ghost use Rattle.byte_classes.specs.Tables.{Tabled, Told};
 

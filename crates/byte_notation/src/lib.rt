@@ -2,6 +2,8 @@
 //
 // A sign or a byte that stands for itself is one byte, an escape two. A bracket is read member by member, in `brackets`; its
 // members are single bytes, ranges and the named classes of `classes`.
+#![tactic(auto)]
+
 ghost use Rattle.std.specs.Prelude.{◌≡◌, ◌+◌, ◌<◌, length, drop, slice_index};
 ghost use Rattle.items.specs.Lexemes.{Within};
 ghost use Rattle.byte_notation.specs.Law.{Reads};

@@ -1,4 +1,6 @@
 // The one collector: fills a lent slice from its front, whatever its entries are.
+#![tactic(auto)]
+
 ghost use Rattle.std.specs.Prelude.{◌≡◌};
 ghost use Rattle.collector.specs.Pushing.{Pushed};
 

@@ -1,4 +1,6 @@
 // The shelf of dense rows over lent bytes.
+#![tactic(auto)]
+
 mod dense;
 mod layout;
 mod watermark;

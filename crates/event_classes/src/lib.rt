@@ -1,5 +1,7 @@
 // Events as symbols. The ranges of the tests cut the codes of events into classes;
 // moments are not looked at.
+#![tactic(auto)]
+
 ghost use Rattle.std.specs.Prelude.{◌≤◌, take};
 ghost use Rattle.event_classes.specs.Tables.{CutRight, CutTold};
 

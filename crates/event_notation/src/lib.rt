@@ -3,6 +3,8 @@
 // Spaces between items are skipped. The signs ( ) | * + ? are operators, and `.` is the atom that passes
 // every event. Any other atom is an optional `!`, a kind, and optionally a colon with a value, or with two
 // values and - between. `start_of` tells by its first byte what an item is; `codes_at` reads what an atom names.
+#![tactic(auto)]
+
 ghost use Rattle.std.specs.Prelude.{◌≡◌, ◌+◌, ◌^◌, ◌<◌, length, drop};
 ghost use Rattle.items.specs.Lexemes.{Within};
 ghost use Rattle.event_notation.specs.Law.{Law};

@@ -5,6 +5,8 @@
 // The parser goes over the items once and writes each code as soon as its operands are complete: the
 // codes of a repeat at once, the join of two repeats when the second is complete, the choice of two
 // branches when the second is complete.
+#![tactic(auto)]
+
 ghost use Rattle.std.specs.Prelude.{◌≡◌, ◌+◌, ◌*◌, ◌≤◌, length};
 ghost use Rattle.collector.specs.Pushing.{held, size};
 ghost use Rattle.grammar.specs.Law.{Understood};

@@ -1,4 +1,6 @@
 // What a pattern text is made of: signs and atoms, one after another, in some notation.
+#![tactic(auto)]
+
 ghost use Rattle.std.specs.Prelude.{◌≡◌, ℕ, ◌<◌, List, length, drop, Result};
 ghost use Rattle.refusal.specs.declared.Refusal.{Refusal};
 ghost use Rattle.items.specs.declared.Lexeme.{Lexeme};

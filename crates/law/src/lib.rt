@@ -1,5 +1,7 @@
 // The law over every series of calls on one searcher, over models of its memory. The statements stand in specs/,
 // their proofs in proofs/; each function here names a theorem, and its answer says nothing.
+#![tactic(auto)]
+
 ghost use Rattle.law.specs.Subject.{Subject, Proper};
 ghost use Rattle.law.specs.Law.{Law};
 ghost use Rattle.law.specs.Alphabets.{FromAlphabet, FromMasks};

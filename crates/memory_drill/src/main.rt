@@ -1,5 +1,7 @@
 // Drives each shelf and each policy through some thousand scripted calls, beside a plain model in maps
 // and sets of the standard library, and prints how many calls there were and how many answers differed.
+#![tactic(auto)]
+
 mod chance;
 mod policy_drill;
 mod policy_model;

@@ -1,4 +1,6 @@
 // The shelf that is a table of pairs, and owns its memory.
+#![tactic(auto)]
+
 mod pair;
 mod step;
 mod table;

@@ -1,4 +1,6 @@
 // A pattern as codes in postfix order: what a draft keeps, and what the words of a pattern are defined from.
+#![tactic(auto)]
+
 ghost use Rattle.pattern.specs.One.{OneTree};
 
 #[derive(Clone, Copy)]

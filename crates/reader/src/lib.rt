@@ -1,4 +1,6 @@
 // Reading a pattern text into a draft: its lexemes in some notation, then the pattern that they form.
+#![tactic(auto)]
+
 pub use self::draft::Draft;
 pub use self::notations::{read_bytes, read_events};
 pub use self::trials::trials_stand;

@@ -1,4 +1,6 @@
 // Makes records from text: events in one line, copies of a piece, and CSV.
+#![tactic(auto)]
+
 mod blanks;
 pub mod csv;
 pub mod events;

@@ -1,4 +1,6 @@
 // Why a text or a call is refused, and where.
+#![tactic(auto)]
+
 ghost use Rattle.std.specs.Prelude.{◌≡◌};
 ghost use Rattle.refusal.specs.Causes.{number_of, layer_of};
 

@@ -1,4 +1,6 @@
 // Reads a line of a script or of a run sheet. Lines are bytes and need not be UTF-8.
+#![tactic(auto)]
+
 pub mod command;
 pub mod hex;
 pub mod number;

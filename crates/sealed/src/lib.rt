@@ -1,4 +1,6 @@
 // A sealed pattern: the alphabet that its tests make, and what the step rule needs to know of its positions.
+#![tactic(auto)]
+
 mod assembly;
 mod part;
 mod plan;

@@ -3,6 +3,8 @@
 //
 // A set of positions that is remembered has a place. The shelf knows steps from place to place; the policy chooses
 // which places are given up when all are taken. Neither can change what is found.
+#![tactic(auto)]
+
 mod answer;
 mod counts;
 mod searcher;

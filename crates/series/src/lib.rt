@@ -1,4 +1,6 @@
 // Series of calls on a searcher, and the law that they keep.
+#![tactic(auto)]
+
 mod agreement;
 mod series;
 

@@ -2,6 +2,8 @@
 // patterns, and this crate joins the two and prints.
 //
 // A new command gets a case of `script::command::Command`, an arm in `session::Session::answer`, and a line in `help`.
+#![tactic(auto)]
+
 mod check;
 mod drafts;
 mod failure;

@@ -1,4 +1,6 @@
 // The symbols of a record, and the tests that atoms put to them.
+#![tactic(auto)]
+
 ghost use Rattle.std.specs.Prelude.{◌≡◌, nat_eq};
 ghost use Rattle.symbols.specs.Tests.{passes_byte, passes_code, code_of};
 ghost use Rattle.symbols.specs.ByteSets.{no_byte, with_byte, with_range, others, Nothing, Adds, Inverts, between};

@@ -1,5 +1,7 @@
 // What a search means. The definitions stand in specs/ and their proofs in proofs/;
 // each function here names a theorem, and its answer says nothing.
+#![tactic(auto)]
+
 ghost use Rattle.std.specs.Prelude.{ℕ, Bool};
 ghost use Rattle.theory.specs.Machine.{Machine};
 ghost use Rattle.theory.specs.Theorems.{Telling, Answering, Searches, WithoutWords, Reading, Masking, Sealing, Alike};

@@ -1,4 +1,6 @@
 // Worked examples of the whole, from a pattern's text to what a search answers and how it is counted, in one joint statement.
+#![tactic(auto)]
+
 ghost use Rattle.trials.specs.Trials.{Trials};
 
 use reader::trials_stand as reading_stands;
