@@ -25,7 +25,7 @@ pub trait Alphabet {
     // The answers: the number of classes, the class of a symbol, and whether a class passes a test.
     ghost classes: { Self → ℕ };
 
-    ghost classOf: { Self → Self.Symbol → ℕ };
+    ghost class_of: { Self → Self.Symbol → ℕ };
 
     ghost accepts: { Self → ℕ → ℕ → Bool };
 

@@ -11,4 +11,4 @@ invariant-loop-placed l =
     × (size l.codes ≡ size l.initial.codes)
     × (l.codes.entries.ghost_name ≡ l.initial.codes.entries.ghost_name)
     × (load (state_of l.parser (held l.codes)) ≤ 2 * l.placed-index)
-    × (parse l.items l.text-length ≡ run l.text-length (state_of l.parser (held l.codes)) (drop l.placed-index l.items))
+    × (parse l.items l.text_length ≡ run l.text_length (state_of l.parser (held l.codes)) (drop l.placed-index l.items))

@@ -9,7 +9,7 @@ pub returns : goal.returns
 unfolding those some
 returns c =
     record {
-      reading = c.trials-stand.ensures;
+      reading = c.trials_stand.ensures;
       longest = longest;
       leftmost = leftmost;
       never_empty = never_empty;

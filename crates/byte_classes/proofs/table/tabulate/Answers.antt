@@ -12,11 +12,11 @@ loop-byte-preserved c =
     let ts = c.args.tests.now in
     let l = c.loop-byte in
     let rows = c.rows-rows in
-    let like = c.first-like-like in
+    let like = c.first_like-like in
     elim c.if-like-byte.branch [
       | then-like-byte w ↦
           filled_at ts (l.byte + 1) (l.classes + 1) _ _ _ _ _ w.class-is w.passing-is w.classes-is
-          (filled_new ts rows.result l.byte l.classes like.result w.passed-by.result l.class l.passing rows.ensures c.loop-byte-test.true like.ensures w.if-like-byte.true w.passed-by.ensures l.invariant)
+          (filled_new ts rows.result l.byte l.classes like.result w.passed_by.result l.class l.passing rows.ensures c.loop-byte-test.true like.ensures w.if-like-byte.true w.passed_by.ensures l.invariant)
       | else-like-byte w ↦
           filled_at ts (l.byte + 1) l.classes _ _ _ _ _ w.class-is w.passing-is w.classes-is
           (filled_old ts rows.result l.byte l.classes like.result _ l.class l.passing rows.ensures c.loop-byte-test.true like.ensures w.if-like-byte.false refl l.invariant)

@@ -6,10 +6,10 @@ use Rattle.byte_notation.proofs.BytesNotation.next.Goals as goal
 
 pub returns : goal.returns
 returns c =
-    let e : c.read-item.result ≡ lexed c.args.place (drop c.args.place c.args.text.now) =
-    c.read-item.ensures.is ∙ sym (at_drop_more (lexed c.args.place) c.args.text.now c.args.place 0 c.requires) in
+    let e : c.read_item.result ≡ lexed c.args.place (drop c.args.place c.args.text.now) =
+    c.read_item.ensures.is ∙ sym (at_drop_more (lexed c.args.place) c.args.text.now c.args.place 0 c.requires) in
     record {
       is = e;
-      within = c.read-item.ensures.within;
-      law = sound_at c.args.place c.args.text.now c.read-item.result c.requires e;
+      within = c.read_item.ensures.within;
+      law = sound_at c.args.place c.args.text.now c.read_item.result c.requires e;
     }

@@ -5,7 +5,7 @@ use Rattle.byte_notation.proofs.brackets.insert_ranges.Goals as goal
 
 pub loop-range-preserved : goal.loop-range-preserved
 loop-range-preserved c =
-    ap (λ t. with_ranges t (drop (c.loop-range.range-index + 1) c.args.ranges.now)) c.insert-range.ensures.is
+    ap (λ t. with_ranges t (drop (c.loop-range.range-index + 1) c.args.ranges.now)) c.insert_range.ensures.is
     ∙ sym (ranges_more c.loop-range.test c.args.ranges.now c.loop-range.range-index _ c.loop-range-test.true)
     ∙ c.loop-range.invariant
 

@@ -14,22 +14,22 @@ returns-in-Some c =
 
 pub returns-in-None : goal.returns-in-None
 returns-in-None c =
-    let told = c.in-default.ensures in
-    let same : c.read-class.new.cursor ≡ c.args.cursor.now = told.moved in
+    let told = c.in_default.ensures in
+    let same : c.read_class.new.cursor ≡ c.args.cursor.now = told.moved in
     record {
-      is = member_byte c.args.text.now c.args.cursor.now c.read-class.new.cursor c.requires same told.is c.in-None.ensures.is;
+      is = member_byte c.args.text.now c.args.cursor.now c.read_class.new.cursor c.requires same told.is c.in-None.ensures.is;
       numbered = tt;
       moved = omega arith;
       within = omega arith;
     }
 
-pub returns-in-Some-range-end : goal.returns-in-Some-range-end
-returns-in-Some-range-end c =
-    let told = c.in-default.ensures in
-    let same : c.read-class.new.cursor ≡ c.args.cursor.now = told.moved in
+pub returns-in-Some-range_end : goal.returns-in-Some-range_end
+returns-in-Some-range_end c =
+    let told = c.in_default.ensures in
+    let same : c.read_class.new.cursor ≡ c.args.cursor.now = told.moved in
     record {
       is =
-          member_reversed c.args.text.now c.args.cursor.now c.read-class.new.cursor c.in-Some-range-end.high c.requires same told.is c.in-Some-range-end.ensures.is
+          member_reversed c.args.text.now c.args.cursor.now c.read_class.new.cursor c.in-Some-range_end.high c.requires same told.is c.in-Some-range_end.ensures.is
           c.if-high-low.true;
       numbered = tt;
       moved = same;
@@ -38,12 +38,12 @@ returns-in-Some-range-end c =
 
 pub returns-in-Some-2 : goal.returns-in-Some-2
 returns-in-Some-2 c =
-    let told = c.in-default.ensures in
-    let same : c.read-class.new.cursor ≡ c.args.cursor.now = told.moved in
-    let fits = c.in-Some-range-end.ensures.within in
+    let told = c.in_default.ensures in
+    let same : c.read_class.new.cursor ≡ c.args.cursor.now = told.moved in
+    let fits = c.in-Some-range_end.ensures.within in
     record {
       is =
-          member_range c.args.text.now c.args.cursor.now c.read-class.new.cursor c.in-Some-range-end.high c.requires same told.is c.in-Some-range-end.ensures.is
+          member_range c.args.text.now c.args.cursor.now c.read_class.new.cursor c.in-Some-range_end.high c.requires same told.is c.in-Some-range_end.ensures.is
           c.if-high-low.false;
       numbered = tt;
       moved = omega arith;

@@ -14,30 +14,30 @@ returns-in-Closed c =
       within = (omega arith, omega arith);
     }
 
-pub returns-in-err-member : goal.returns-in-err-member
-returns-in-err-member c =
-    let p = err_from_is_err_and c.from-residual.result c.from-residual.ensures.1 in
+pub returns-in_err-member : goal.returns-in_err-member
+returns-in_err-member c =
+    let p = err_from_is_err_and c.from_residual.result c.from_residual.ensures.1 in
     let open_yet : after c.loop-cursor.state (get_or c.args.text.now c.loop-cursor.cursor 0) ≡ Members =
-    read_or_closed c.loop-cursor.state (get_or c.args.text.now c.loop-cursor.cursor 0) (λ e. c.in-default.not-Closed (c.advance-state.ensures ∙ e)) in
+    read_or_closed c.loop-cursor.state (get_or c.args.text.now c.loop-cursor.cursor 0) (λ e. c.in_default.not-Closed (c.advance-state.ensures ∙ e)) in
     rw (p.1, p.2)
     (record {
       is =
-          sym (refuses c.args.opening c.loop-cursor.state c.loop-cursor.test c.loop-cursor.cursor c.args.text.now c.in-err-member.field-0.0 c.loop-cursor-test.true open_yet
-          c.in-err-member.ensures.is)
+          sym (refuses c.args.opening c.loop-cursor.state c.loop-cursor.test c.loop-cursor.cursor c.args.text.now c.in_err-member.field-0.0 c.loop-cursor-test.true open_yet
+          c.in_err-member.ensures.is)
           ∙ c.loop-cursor.invariant.2;
       within = tt;
     })
 
 pub loop-cursor-preserved : goal.loop-cursor-preserved
 loop-cursor-preserved c =
-    let told = c.in-ok-member.ensures in
+    let told = c.in_ok-member.ensures in
     let open_yet : after c.loop-cursor.state (get_or c.args.text.now c.loop-cursor.cursor 0) ≡ Members =
-    read_or_closed c.loop-cursor.state (get_or c.args.text.now c.loop-cursor.cursor 0) (λ e. c.in-default.not-Closed (c.advance-state.ensures ∙ e)) in
-    let moved : c.read-member.new.cursor ≡ c.loop-cursor.cursor + width c.in-ok-member.member = told.moved in (
+    read_or_closed c.loop-cursor.state (get_or c.args.text.now c.loop-cursor.cursor 0) (λ e. c.in_default.not-Closed (c.advance-state.ensures ∙ e)) in
+    let moved : c.read_member.new.cursor ≡ c.loop-cursor.cursor + width c.in_ok-member.member = told.moved in (
       omega arith,
       told.within,
-      (λ i. members c.args.opening ((c.advance-state.ensures ∙ open_yet) i) (c.insert-member.ensures i) (moved i) 0 (drop (moved i) c.args.text.now))
-          ∙ sym (one_more c.args.opening c.loop-cursor.state c.loop-cursor.test c.loop-cursor.cursor c.args.text.now c.in-ok-member.member c.loop-cursor-test.true open_yet told.is)
+      (λ i. members c.args.opening ((c.advance-state.ensures ∙ open_yet) i) (c.insert_member.ensures i) (moved i) 0 (drop (moved i) c.args.text.now))
+          ∙ sym (one_more c.args.opening c.loop-cursor.state c.loop-cursor.test c.loop-cursor.cursor c.args.text.now c.in_ok-member.member c.loop-cursor-test.true open_yet told.is)
           ∙ c.loop-cursor.invariant.2,
     )
 

@@ -14,14 +14,14 @@ returns-then-not-begins c =
       within = search rules;
     }
 
-pub returns-then-begins-named : goal.returns-then-begins-named
-returns-then-begins-named c =
+pub returns-then-begins_named : goal.returns-then-begins_named
+returns-then-begins_named c =
     let room : c.loop-i.i < length names = omega (arith, eight_names) in
     let here : starts (get_or names c.loop-i.i [] ++ codes ":]") (drop 2 (drop c.args.cursor.now c.args.text.now)) ≡ true =
-    named_at c.args.text.now c.args.cursor.now c.loop-i.back.cursor.now c.name-of-name.result.now (get_or names c.loop-i.i []) c.begins-named.result true c.loop-i.invariant.0 c.name-of-name.ensures c.begins-named.ensures.is c.if-begins-named.true in
-    let wide : length c.name-of-name.result.now ≡ length (get_or names c.loop-i.i []) = ap length c.name-of-name.ensures in
-    let ends = c.drop-back-then-begins-named.ensures in
-    let fits = c.begins-named.ensures.fits c.if-begins-named.true in
+    named_at c.args.text.now c.args.cursor.now c.loop-i.back.cursor.now c.name_of-name.result.now (get_or names c.loop-i.i []) c.begins_named.result true c.loop-i.invariant.0 c.name_of-name.ensures c.begins_named.ensures.is c.if-begins_named.true in
+    let wide : length c.name_of-name.result.now ≡ length (get_or names c.loop-i.i []) = ap length c.name_of-name.ensures in
+    let ends = c.drop-back-then-begins_named.ensures in
+    let fits = c.begins_named.ensures.fits c.if-begins_named.true in
     record {
       is = sym (class_here names (drop c.args.cursor.now c.args.text.now) c.loop-i.i room c.loop-i.invariant.5 here) ∙ c.loop-i.invariant.6;
       known = c.loop-i-test.true;
@@ -33,7 +33,7 @@ pub loop-i-preserved : goal.loop-i-preserved
 loop-i-preserved c =
     let room : c.loop-i.i < length names = omega (arith, eight_names) in
     let not-here : starts (get_or names c.loop-i.i [] ++ codes ":]") (drop 2 (drop c.args.cursor.now c.args.text.now)) ≡ false =
-    named_at c.args.text.now c.args.cursor.now c.loop-i.back.cursor.now c.name-of-name.result.now (get_or names c.loop-i.i []) c.begins-named.result false c.loop-i.invariant.0 c.name-of-name.ensures c.begins-named.ensures.is c.if-begins-named.false in (
+    named_at c.args.text.now c.args.cursor.now c.loop-i.back.cursor.now c.name_of-name.result.now (get_or names c.loop-i.i []) c.begins_named.result false c.loop-i.invariant.0 c.name_of-name.ensures c.begins_named.ensures.is c.if-begins_named.false in (
       c.loop-i.invariant.0,
       c.loop-i.invariant.1,
       refl,

@@ -9,7 +9,7 @@ overflow-add-gone c =
     omega (
       arith,
       swept_few c.args.n (plus 64 none c.args.p) _ _ c.loop-c.gone (omega arith) c.loop-c.invariant.0,
-      swept_few c.args.n (plus 64 none c.args.p) _ _ c.forget-from-gone.result (omega arith) c.forget-from-gone.ensures.swept,
+      swept_few c.args.n (plus 64 none c.args.p) _ _ c.forget_from-gone.result (omega arith) c.forget_from-gone.ensures.swept,
     )
 
 pub overflow-add-gone-in-loop-c : goal.overflow-add-gone-in-loop-c
@@ -17,8 +17,8 @@ overflow-add-gone-in-loop-c c =
     omega (
       arith,
       swept_few c.args.n (plus 64 none c.args.p) _ _ c.loop-c.gone (omega arith) c.loop-c.invariant.0,
-      swept_few c.args.n (plus 64 none c.args.p) _ _ c.forget-from-gone.result (omega arith) c.forget-from-gone.ensures.swept,
-      swept_few c.args.n (plus 64 none c.args.p) _ _ c.forget-to-gone.result (omega arith) c.forget-to-gone.ensures.swept,
+      swept_few c.args.n (plus 64 none c.args.p) _ _ c.forget_from-gone.result (omega arith) c.forget_from-gone.ensures.swept,
+      swept_few c.args.n (plus 64 none c.args.p) _ _ c.forget_to-gone.result (omega arith) c.forget_to-gone.ensures.swept,
     )
 
 pub loop-c-init : goal.loop-c-init
@@ -30,14 +30,14 @@ loop-c-preserved c =
     let w : ℕ = c.args.used in
     let m : ℕ → Bool = plus 64 none c.args.p in
     let bs : List ℕ = c.loop-c.bytes in
-    let mid : List ℕ = c.forget-from-gone.new.bytes in
-    let end : List ℕ = c.forget-to-gone.new.bytes in
-    let a : ℕ = c.forget-from-gone.result in
-    let b : ℕ = c.forget-to-gone.result in
+    let mid : List ℕ = c.forget_from-gone.new.bytes in
+    let end : List ℕ = c.forget_to-gone.new.bytes in
+    let a : ℕ = c.forget_from-gone.result in
+    let b : ℕ = c.forget_to-gone.result in
     subst (λ (g : ℕ). RowsInv c.args.bytes.now n w m (c.loop-c.c + 1) end g) (sym (add_assoc c.loop-c.gone a b))
     (rows_more c.args.bytes.now bs end n w m c.loop-c.c c.loop-c.gone (a + b) c.loop-c.invariant
-    (swept_more n m (dense bs n w) (dense mid n w) (dense end n w) a b c.forget-from-gone.ensures.swept c.forget-to-gone.ensures.swept)
-    c.forget-to-gone.ensures.row (c.forget-to-gone.ensures.behind ∙ c.forget-from-gone.ensures.behind))
+    (swept_more n m (dense bs n w) (dense mid n w) (dense end n w) a b c.forget_from-gone.ensures.swept c.forget_to-gone.ensures.swept)
+    c.forget_to-gone.ensures.row (c.forget_to-gone.ensures.behind ∙ c.forget_from-gone.ensures.behind))
 
 pub returns : goal.returns
 returns c =

@@ -9,7 +9,7 @@ overflow-add-gone c =
     omega (
       arith,
       swept_few c.args.n (member c.args.places) _ _ c.loop-c.gone (omega arith) c.loop-c.invariant.0,
-      swept_few c.args.n (member c.args.places) _ _ c.forget-row-gone.result (omega arith) c.forget-row-gone.ensures.swept,
+      swept_few c.args.n (member c.args.places) _ _ c.forget_row-gone.result (omega arith) c.forget_row-gone.ensures.swept,
     )
 
 pub loop-c-init : goal.loop-c-init
@@ -17,8 +17,8 @@ loop-c-init c = (swept_none c.args.n (member c.args.places) (dense c.args.bytes.
 
 pub loop-c-preserved : goal.loop-c-preserved
 loop-c-preserved c =
-    rows_more c.args.bytes.now c.loop-c.bytes c.forget-row-gone.new.bytes c.args.n c.args.used (member c.args.places) c.loop-c.c c.loop-c.gone c.forget-row-gone.result
-    c.loop-c.invariant c.forget-row-gone.ensures.swept c.forget-row-gone.ensures.row c.forget-row-gone.ensures.behind
+    rows_more c.args.bytes.now c.loop-c.bytes c.forget_row-gone.new.bytes c.args.n c.args.used (member c.args.places) c.loop-c.c c.loop-c.gone c.forget_row-gone.result
+    c.loop-c.invariant c.forget_row-gone.ensures.swept c.forget_row-gone.ensures.row c.forget_row-gone.ensures.behind
 
 pub returns : goal.returns
 returns c =

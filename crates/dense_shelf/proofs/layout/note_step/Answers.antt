@@ -17,7 +17,7 @@ returns c =
       length = search rules;
       behind = behind_set c.if-class-used.bytes c.args.n 256 (c.args.class * c.args.n + c.args.place) _ (cell_low c.args.n 256 c.args.class c.args.place c.if-class-ge256.false c.if-place-n.false) (omega arith)
           ∙ elim c.if-class-used.branch [ then-class-used w ↦ ap (behind c.args.n) w.bytes-is ∙ w.widen.ensures.behind | else-class-used w ↦ ap (behind c.args.n) w.bytes-is ];
-      answer = free_yes c.args.bytes.now c.args.n c.args.used c.args.place c.args.class c.args.target c.if-place-n.false c.if-class-ge256.false c.if-target-n.false (sym c.look-up.ensures ∙ c.in-default.is);
+      answer = free_yes c.args.bytes.now c.args.n c.args.used c.args.place c.args.class c.args.target c.if-place-n.false c.if-class-ge256.false c.if-target-n.false (sym c.look_up.ensures ∙ c.in_default.is);
       map = elim c.if-class-used.branch [
         | then-class-used w ↦
             note_wide c.args.bytes.now w.widen.new.bytes c.if-class-used.bytes c.args.n c.args.used c.args.place c.args.class c.args.target

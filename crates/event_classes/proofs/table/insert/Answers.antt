@@ -16,7 +16,7 @@ returns-then-codes-place c = record {
   is = insert_old c.args.codes.now c.args.count c.args.code c.rank-place.result (omega arith) c.requires.ascending c.rank-place.ensures.is c.if-place-gt0.true c.if-codes-place.true;
 }
 
-pub copy_within_requires : goal.copy-within-requires
+pub copy_within_requires : goal.copy_within-requires
 copy_within_requires c =
     let e : length (take c.args.count c.args.codes.now) ≡ c.args.count = length-take-le c.args.count c.args.codes.now (omega arith) in
     record { start-le-end = omega arith; in_bounds = omega arith; dest-in-bounds = omega arith; not-exhausted = tt }
@@ -25,7 +25,7 @@ pub returns : goal.returns
 returns c = record {
   few = omega arith;
   is =
-      insert_new c.args.codes.now c.copy-within.new.self c.args.count c.args.code c.rank-place.result c.requires.room c.requires.ascending c.rank-place.ensures.is
+      insert_new c.args.codes.now c.copy_within.new.self c.args.count c.args.code c.rank-place.result c.requires.room c.requires.ascending c.rank-place.ensures.is
       (λ l. elim c.else-place-gt0.branch [ else-place-gt0-via-then-place-gt0+else-codes-place w ↦ w.if-codes-place.false | else-place-gt0-via-else-place-gt0 w ↦ λ _. omega (arith, w.if-place-gt0.false) ])
-      c.copy-within.ensures.after;
+      c.copy_within.ensures.after;
 }

@@ -12,7 +12,7 @@ pub loop-i-init : goal.loop-i-init
 loop-i-init c = (
   refl,
   λ k l.
-      ap holds (get_or-replicate 127 k c.passed-by-passing.result blank (omega arith)) ∙ c.passed-by-passing.ensures
+      ap holds (get_or-replicate 127 k c.passed_by-passing.result blank (omega arith)) ∙ c.passed_by-passing.ensures
       ∙ ap (passed_code c.args.tests.now) (sym (lowest_zero c.args.cuts.now k (omega arith))),
 )
 
@@ -21,9 +21,9 @@ loop-i-preserved c =
     let l = c.loop-i in
     let cs = c.args.cuts.now in
     let e : l.i + 1 - 1 ≡ l.i = omega arith in (
-      length-set l.passing (l.i + 1) c.passed-by.result ∙ l.invariant.0,
-      below_kept (λ k s. holds s ≡ passed_code c.args.tests.now (lowest_code cs k)) l.passing (l.i + 1) c.passed-by.result blank (omega arith) l.invariant.1
-          (c.passed-by.ensures ∙ ap (passed_code c.args.tests.now) (sym (lowest_cut cs (l.i + 1) (λ z. omega arith) ∙ ap (λ j. get_or cs j 0) e))),
+      length-set l.passing (l.i + 1) c.passed_by.result ∙ l.invariant.0,
+      below_kept (λ k s. holds s ≡ passed_code c.args.tests.now (lowest_code cs k)) l.passing (l.i + 1) c.passed_by.result blank (omega arith) l.invariant.1
+          (c.passed_by.ensures ∙ ap (passed_code c.args.tests.now) (sym (lowest_cut cs (l.i + 1) (λ z. omega arith) ∙ ap (λ j. get_or cs j 0) e))),
     )
 
 pub returns : goal.returns

@@ -15,21 +15,21 @@ told ts cs ds passing e h = rw e at h
 
 pub ranks_lowest_requires : goal.ranks-lowest-requires
 ranks_lowest_requires c = record {
-  ascending = ascending_cuts c.args.tests.now _ c.cut-by-count.ensures.is;
-  short = omega (arith, length-take c.cut-by-count.result c.cut-by-count.new.codes);
+  ascending = ascending_cuts c.args.tests.now _ c.cut_by-count.ensures.is;
+  short = omega (arith, length-take c.cut_by-count.result c.cut_by-count.new.codes);
   low = omega arith;
 }
 
 pub ranks_highest_requires : goal.ranks-highest-requires
 ranks_highest_requires c = record {
-  ascending = ascending_cuts c.args.tests.now _ c.cut-by-count.ensures.is;
-  short = omega (arith, length-take c.cut-by-count.result c.cut-by-count.new.codes);
+  ascending = ascending_cuts c.args.tests.now _ c.cut_by-count.ensures.is;
+  short = omega (arith, length-take c.cut_by-count.result c.cut_by-count.new.codes);
   low = omega arith;
 }
 
 pub returns : goal.returns
 returns c =
-    let n = c.cut-by-count in
+    let n = c.cut_by-count in
     let ts = c.args.tests.now in
     record {
       cuts = (

@@ -7,7 +7,7 @@ pub returns-then-width-eq5 : goal.returns-then-width-eq5
 returns-then-width-eq5 c =
     record {
       within = tt;
-      is = sym (over c.loop-width.value c.loop-width.width (c.args.place + c.loop-width.width) c.args.text.now c.loop-width-test.true (sym c.if-not-is-digit.ensures) c.if-width-eq5.true)
+      is = sym (over c.loop-width.value c.loop-width.width (c.args.place + c.loop-width.width) c.args.text.now c.loop-width-test.true (sym c.if-not-is_digit.ensures) c.if-width-eq5.true)
           ∙ c.loop-width.invariant.3;
     }
 
@@ -20,7 +20,7 @@ loop-width-preserved c =
       omega arith,
       grows c.loop-width.value c.loop-width.width c.from.result c.loop-width.invariant.2 small,
       (λ i. digits (c.loop-width.value * 10 + c.from.ensures i) (c.loop-width.width + 1) (drop (sym (add_assoc c.args.place c.loop-width.width 1) i) ts))
-          ∙ sym (more c.loop-width.value c.loop-width.width q ts c.loop-width-test.true (sym c.if-not-is-digit.ensures) c.if-width-eq5.false)
+          ∙ sym (more c.loop-width.value c.loop-width.width q ts c.loop-width-test.true (sym c.if-not-is_digit.ensures) c.if-width-eq5.false)
           ∙ c.loop-width.invariant.3,
     )
 
@@ -28,10 +28,10 @@ pub returns-after-loop-width : goal.returns-after-loop-width
 returns-after-loop-width c =
     record { within = (omega arith, omega arith); is = sym (end c.loop-width.value c.loop-width.width (c.args.place + c.loop-width.width) c.args.text.now c.loop-width-test.false) ∙ c.loop-width.invariant.3 }
 
-pub returns-then-not-is-digit : goal.returns-then-not-is-digit
-returns-then-not-is-digit c =
+pub returns-then-not-is_digit : goal.returns-then-not-is_digit
+returns-then-not-is_digit c =
     record {
       within = (omega arith, omega arith);
-      is = sym (stop c.loop-width.value c.loop-width.width (c.args.place + c.loop-width.width) c.args.text.now c.loop-width-test.true (sym c.if-not-is-digit.ensures))
+      is = sym (stop c.loop-width.value c.loop-width.width (c.args.place + c.loop-width.width) c.args.text.now c.loop-width-test.true (sym c.if-not-is_digit.ensures))
           ∙ c.loop-width.invariant.3;
     }

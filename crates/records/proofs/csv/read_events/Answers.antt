@@ -10,13 +10,13 @@ loop-rest-smaller c = omega (arith, ap length c.behind-rest.ensures, shorter 10 
 
 pub loop-rest-preserved : goal.loop-rest-preserved
 loop-rest-preserved c =
-    let is_row : c.row-of-row.result ≡ row_of c.loop-rest.first (up_to 10 c.loop-rest.rest.now) = c.row-of-row.ensures ∙ ap (row_of c.loop-rest.first) c.before-in-loop-rest.ensures in (
+    let is_row : c.row_of-row.result ≡ row_of c.loop-rest.first (up_to 10 c.loop-rest.rest.now) = c.row_of-row.ensures ∙ ap (row_of c.loop-rest.first) c.before-in-loop-rest.ensures in (
       omega (arith, ap length c.behind-rest.ensures, shorter 10 c.loop-rest.rest.now (omega arith)),
       (
-        good c.loop-rest.first c.still-first-first.result c.loop-rest.rest.now c.behind-rest.result.now c.row-of-row.result is_row c.still-first-first.ensures c.behind-rest.ensures
-            (vec_items c.loop-rest.out) (vec_items c.keep.new.out) c.in-ok-keep.ensures.good ∙ c.loop-rest.invariant.1.0,
-        bad c.loop-rest.first c.still-first-first.result c.loop-rest.rest.now c.behind-rest.result.now c.row-of-row.result is_row c.still-first-first.ensures c.behind-rest.ensures
-            _ (vec_items c.loop-rest.bad) (vec_items c.keep.new.bad) c.in-ok-keep.ensures.bad ∙ c.loop-rest.invariant.1.1,
+        good c.loop-rest.first c.still_first-first.result c.loop-rest.rest.now c.behind-rest.result.now c.row_of-row.result is_row c.still_first-first.ensures c.behind-rest.ensures
+            (vec_items c.loop-rest.out) (vec_items c.keep.new.out) c.in_ok-keep.ensures.good ∙ c.loop-rest.invariant.1.0,
+        bad c.loop-rest.first c.still_first-first.result c.loop-rest.rest.now c.behind-rest.result.now c.row_of-row.result is_row c.still_first-first.ensures c.behind-rest.ensures
+            _ (vec_items c.loop-rest.bad) (vec_items c.keep.new.bad) c.in_ok-keep.ensures.bad ∙ c.loop-rest.invariant.1.1,
       ),
     )
 

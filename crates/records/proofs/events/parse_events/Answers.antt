@@ -23,14 +23,14 @@ loop-rest-preserved c =
     let isWord : c.stripped-word.result.now ≡ stripped (up_to 32 c.loop-rest.rest.now) = c.stripped-word.ensures ∙ ap stripped c.before-in-loop-rest.ensures in (
       omega (arith, ap length c.behind-rest.ensures, shorter 32 c.loop-rest.rest.now (omega arith)),
       read (vec_items c.loop-rest.out) _ c.loop-rest.rest.now c.stripped-word.result.now c.behind-rest.result.now isWord c.behind-rest.ensures c.if-word-eq0.false
-          c.in-Some.event c.in-Some.ensures (vec_items c.push.new.self) c.in-ok-push.ensures.items ∙ c.loop-rest.invariant.1,
+          c.in-Some.event c.in-Some.ensures (vec_items c.push.new.self) c.in_ok-push.ensures.items ∙ c.loop-rest.invariant.1,
     )
 
-pub returns-in-default : goal.returns-in-default
-returns-in-default c =
+pub returns-in_default : goal.returns-in_default
+returns-in_default c =
     let isWord : c.stripped-word.result.now ≡ stripped (up_to 32 c.loop-rest.rest.now) = c.stripped-word.ensures ∙ ap stripped c.before-in-loop-rest.ensures in (
-      sym c.loop-rest.invariant.1 ∙ wrong (vec_items c.loop-rest.out) _ c.loop-rest.rest.now c.stripped-word.result.now c.behind-rest.result.now isWord c.behind-rest.ensures c.if-word-eq0.false c.in-default.ensures,
-      c.clear-in-default.ensures.items,
+      sym c.loop-rest.invariant.1 ∙ wrong (vec_items c.loop-rest.out) _ c.loop-rest.rest.now c.stripped-word.result.now c.behind-rest.result.now isWord c.behind-rest.ensures c.if-word-eq0.false c.in_default.ensures,
+      c.clear-in_default.ensures.items,
     )
 
 pub returns : goal.returns

@@ -12,7 +12,7 @@ returns-then-count-piece g c =
 
 pub loop-left-preserved : goal.loop-left-preserved
 loop-left-preserved g c =
-    more (vec_items c.loop-left.out) (vec_items c.extend-from-slice.new.self) c.args.piece.now c.loop-left.left c.loop-left-test.true c.in-ok-extend-from-slice.ensures.items
+    more (vec_items c.loop-left.out) (vec_items c.extend_from_slice.new.self) c.args.piece.now c.loop-left.left c.loop-left-test.true c.in_ok-extend_from_slice.ensures.items
     ∙ c.loop-left.invariant
 
 pub returns : goal.returns

@@ -23,4 +23,4 @@ loop-p-preserved c =
     (member_low c.args.members c.loop-p.from c.in-Some.p c.in-Some.ensures) c.in-Some.ensures refl c.union-all.ensures c.loop-p.invariant
 
 pub returns : goal.returns
-returns c = united_all c.args.members c.args.rows.now c.loop-p.from c.loop-p.all c.in-default.ensures c.loop-p.invariant
+returns c = united_all c.args.members c.args.rows.now c.loop-p.from c.loop-p.all c.in_default.ensures c.loop-p.invariant

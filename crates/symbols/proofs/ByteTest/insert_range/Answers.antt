@@ -22,8 +22,8 @@ loop-byte-preserved c =
           ∙ adds_more c.args.low c.loop-byte.byte x (passes_byte c.args.self.now x) c.loop-byte.auto.byte,
     )
 
-pub returns·2 : goal.returns·2
-returns·2 c =
+pub returns-2 : goal.returns-2
+returns-2 c =
     let end : c.args.high ≤ c.loop-byte.byte = omega arith in
     record {
       is =

@@ -5,4 +5,4 @@ use Rattle.automaton.proofs.sealed_pattern.SealedAutomaton.is_empty.Goals as goa
 pub returns : goal.returns
 returns g c =
     let l : c.args.set.bits < 2 ^ 64 = search rules in
-    empty_digits c.args.set c.is-empty.result l c.is-empty.ensures
+    empty_digits c.args.set c.is_empty.result l c.is_empty.ensures

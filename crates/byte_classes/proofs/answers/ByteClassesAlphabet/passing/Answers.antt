@@ -10,15 +10,15 @@ use Rattle.byte_classes.proofs.answers.ByteClassesAlphabet.passing.Goals as goal
 pub bounds-self-class : goal.bounds-self-class
 bounds-self-class c = omega (arith, bytes_few (byte_tests c.args.self.now))
 
-pub returns-then-class-class-count : goal.returns-then-class-class-count
-returns-then-class-class-count c =
+pub returns-then-class-class_count : goal.returns-then-class-class_count
+returns-then-class-class_count c =
     let a = c.args.self.now in
     let ts = byte_tests a in
     let k = c.args.class in
     let l : k < byte_classes ts = omega arith in
     passing_known (byte_answers ts (member (alike ts) 256 k)) (byte_accepts ts k) _ (λ j. bytes_answer ts k j (member (alike ts) 256 k) l refl) (λ j. a.told k j l)
 
-pub returns-else-class-class-count : goal.returns-else-class-class-count
-returns-else-class-class-count c =
+pub returns-else-class-class_count : goal.returns-else-class-class_count
+returns-else-class-class_count c =
     let ts = byte_tests c.args.self.now in
     c.empty.ensures ∙ passing_none (byte_accepts ts c.args.class) (λ j. bytes_unclassed ts c.args.class j (omega arith))

@@ -5,7 +5,7 @@ use Rattle.event_classes.specs.Cutting.{count_le}
 use Rattle.event_classes.proofs.Inserting.{ascending_cuts, kind_between}
 use Rattle.event_classes.proofs.answers.EventCutsAlphabet.class_of.Goals as goal
 
-pub rank_between_requires : goal.rank-between-requires
+pub rank_between_requires : goal.rank_between-requires
 rank_between_requires c =
     let t = c.args.self.now.table in
     let h = c.args.self.now.right in

@@ -15,7 +15,7 @@ returns c =
     let d = p.depth in
     let more : c.args.self.now.depth - 1 ≤ 32 = omega (arith, c.requires.shallow) in
     record {
-      meaning = wanted p.frame.repeats (closed (32 - d) cs (below p.around d)) (sym c.if-is-empty.ensures)
+      meaning = wanted p.frame.repeats (closed (32 - d) cs (below p.around d)) (sym c.if-is_empty.ensures)
           ∙ closed_is d cs p.around (omega (arith, c.if-self-eq0.false)) c.requires.shallow
           ∙ ap (λ z. go (state (32 - (d - 1)) z (get_or p.around (d - 1) (framed false Empty)) (below p.around (d - 1)))) (sym w.entries);
       shallow = more;

@@ -10,7 +10,7 @@ returns-then-self-gt0 c =
     let p = c.args.self.now in
     let s = state_of p (held c.args.codes.now ++ ends p.frame) in
     record {
-      meaning = wanted p.frame.repeats (done s (below p.around p.depth)) (sym c.if-is-empty.ensures) ∙ unclosed_is p.depth s p.around c.if-self-gt0.true;
+      meaning = wanted p.frame.repeats (done s (below p.around p.depth)) (sym c.if-is_empty.ensures) ∙ unclosed_is p.depth s p.around c.if-self-gt0.true;
       shallow = c.requires.0;
       within = c.requires.1;
       same_size = refl;

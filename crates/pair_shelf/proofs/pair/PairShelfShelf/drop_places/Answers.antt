@@ -8,11 +8,11 @@ returns c =
       room = refl;
       most = refl;
       sound = λ _. tt;
-      map = c.keep-steps-kept.ensures.map;
+      map = c.keep_steps-kept.ensures.map;
       answer = omega (
         arith,
-        c.keep-steps-kept.ensures.low,
+        c.keep_steps-kept.ensures.low,
         pairs_size c.args.self.now.steps c.args.self.now.len c.args.self.now.ok,
-        pairs_size c.keep-steps-kept.new.steps c.keep-steps-kept.result c.keep-steps-kept.ensures.fine,
+        pairs_size c.keep_steps-kept.new.steps c.keep_steps-kept.result c.keep_steps-kept.ensures.fine,
       );
     }

@@ -20,7 +20,7 @@ invariant-of-self c =
       omega arith,
       (
         fine_push s.steps s.len (record { place = c.args.place; class = c.args.class; target = c.args.target }) l s.ok
-            (record { from = c.if-place-ge64.false; to = c.if-target-ge64.false; class = c.if-class-ge256.false; lacks = sym c.find-step.ensures ∙ c.in-default.is }),
+            (record { from = c.if-place-ge64.false; to = c.if-target-ge64.false; class = c.if-class-ge256.false; lacks = sym c.find_step.ensures ∙ c.in_default.is }),
         tt,
       ),
     )
@@ -33,6 +33,6 @@ returns c =
       room = refl;
       most = refl;
       sound = λ _. tt;
-      answer = free_yes s.steps s.len c.args.place c.args.class c.args.target s.ok c.if-len-ge512.false c.if-place-ge64.false c.if-class-ge256.false c.if-target-ge64.false (sym c.find-step.ensures ∙ c.in-default.is);
+      answer = free_yes s.steps s.len c.args.place c.args.class c.args.target s.ok c.if-len-ge512.false c.if-place-ge64.false c.if-class-ge256.false c.if-target-ge64.false (sym c.find_step.ensures ∙ c.in_default.is);
       map = pairs_push s.steps s.len (record { place = c.args.place; class = c.args.class; target = c.args.target }) l;
     }

@@ -20,11 +20,11 @@ pub returns-in-Some : goal.returns-in-Some
 returns-in-Some c =
     let s = c.args.self.now in
     let p : ℕ = c.in-Some.p in
-    let w : round (others (member s.live) c.args.held) (member s.marks) s.hand ≡ way (Some p) (member c.go-round-stop.result.marks) =
-    sym (c.go-round-stop.ensures ∙ ap (λ f. round f (member s.marks) s.hand) c.without-held.ensures) ∙ ap (λ o. way o (member c.go-round-stop.result.marks)) c.in-Some.is
+    let w : round (others (member s.live) c.args.held) (member s.marks) s.hand ≡ way (Some p) (member c.go_round-stop.result.marks) =
+    sym (c.go_round-stop.ensures ∙ ap (λ f. round f (member s.marks) s.hand) c.without_held.ensures) ∙ ap (λ o. way o (member c.go_round-stop.result.marks)) c.in-Some.is
     in
     let f : (round (others (member s.live) c.args.held) (member s.marks) s.hand).found ≡ Some p = ap (λ x. x.found) w in
-    let l : Chosen (others (member s.live) c.args.held) (member s.marks) s.hand (Some p) (member c.go-round-stop.result.marks) = chosen_by s.live s.marks c.args.held s.hand (Some p) (member c.go-round-stop.result.marks) s.low w in
+    let l : Chosen (others (member s.live) c.args.held) (member s.marks) s.hand (Some p) (member c.go_round-stop.result.marks) = chosen_by s.live s.marks c.args.held s.hand (Some p) (member c.go_round-stop.result.marks) s.low w in
     let m : member c.single.result ≡ only (Some p) = c.single.ensures in
     record {
       same = search rules;
@@ -42,11 +42,11 @@ returns-in-Some c =
 pub returns-in-None : goal.returns-in-None
 returns-in-None c =
     let s = c.args.self.now in
-    let w : round (others (member s.live) c.args.held) (member s.marks) s.hand ≡ way None (member c.go-round-stop.result.marks) =
-    sym (c.go-round-stop.ensures ∙ ap (λ f. round f (member s.marks) s.hand) c.without-held.ensures) ∙ ap (λ o. way o (member c.go-round-stop.result.marks)) c.in-None.is
+    let w : round (others (member s.live) c.args.held) (member s.marks) s.hand ≡ way None (member c.go_round-stop.result.marks) =
+    sym (c.go_round-stop.ensures ∙ ap (λ f. round f (member s.marks) s.hand) c.without_held.ensures) ∙ ap (λ o. way o (member c.go_round-stop.result.marks)) c.in-None.is
     in
     let f : (round (others (member s.live) c.args.held) (member s.marks) s.hand).found ≡ None = ap (λ x. x.found) w in
-    let l : Chosen (others (member s.live) c.args.held) (member s.marks) s.hand None (member c.go-round-stop.result.marks) = chosen_by s.live s.marks c.args.held s.hand None (member c.go-round-stop.result.marks) s.low w in
+    let l : Chosen (others (member s.live) c.args.held) (member s.marks) s.hand None (member c.go_round-stop.result.marks) = chosen_by s.live s.marks c.args.held s.hand None (member c.go_round-stop.result.marks) s.low w in
     let m : member c.empty.result ≡ only None = c.empty.ensures in
     record {
       same = search rules;

@@ -8,8 +8,8 @@ returns c =
     let s = c.args.self.now in
     record {
       same = refl;
-      within = λ k h. others_may (member s.live) c.args.held k (sym (ap (λ f. f k) c.without-held.ensures) ∙ h);
-      some = λ k h. (k, ap (λ f. f k) c.without-held.ensures ∙ may_others (member s.live) c.args.held k h);
-      answer = c.without-held.ensures;
-      hears = (refl, c.without-held.ensures);
+      within = λ k h. others_may (member s.live) c.args.held k (sym (ap (λ f. f k) c.without_held.ensures) ∙ h);
+      some = λ k h. (k, ap (λ f. f k) c.without_held.ensures ∙ may_others (member s.live) c.args.held k h);
+      answer = c.without_held.ensures;
+      hears = (refl, c.without_held.ensures);
     }

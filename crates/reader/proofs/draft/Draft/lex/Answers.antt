@@ -11,20 +11,20 @@ loop-place-init g c =
     let none : held items ≡ [] = ap (λ n. take n items.entries.now) c.over-items.ensures.used in
     (omega arith, omega (arith, c.over-items.ensures.used), refl, refl, reached_none g.N.Notation.lexed c.args.text.now (tests_of c.clear.new.self) (held items) c.clear.ensures.tests none)
 
-pub returns-in-err-lexeme : goal.returns-in-err-lexeme
-returns-in-err-lexeme g c =
-    let p = err_from_is_err_and c.from-residual.result c.from-residual.ensures.1 in
+pub returns-in_err-lexeme : goal.returns-in_err-lexeme
+returns-in_err-lexeme g c =
+    let p = err_from_is_err_and c.from_residual.result c.from_residual.ensures.1 in
     let i = c.loop-place.invariant in
-    let told = c.in-err-lexeme.ensures in
+    let told = c.in_err-lexeme.ensures in
     rw (p.1, p.2)
-    (reached_stop g.N.Notation.lexed c.args.text.now (tests_of c.loop-place.self) (held c.loop-place.items) c.loop-place.place c.in-err-lexeme.field-0.0 i.4
+    (reached_stop g.N.Notation.lexed c.args.text.now (tests_of c.loop-place.self) (held c.loop-place.items) c.loop-place.place c.in_err-lexeme.field-0.0 i.4
     c.loop-place-test.true told.is)
 
 pub loop-place-preserved : goal.loop-place-preserved
 loop-place-preserved g c =
     let i = c.loop-place.invariant in
-    let told = c.in-ok-lexeme.ensures in
-    let x = c.in-ok-lexeme.lexeme in
+    let told = c.in_ok-lexeme.ensures in
+    let x = c.in_ok-lexeme.lexeme in
     let t = c.take.ensures in (
       told.within.1,
       omega (arith, told.within.0, t.wrote.count, at_most_one x.token c.loop-place.place, i.1),

@@ -13,5 +13,5 @@ returns c =
     let two : a.height - 1 - 1 ≡ a.height - 2 = omega arith in
     record {
       atoms = refl;
-      taken = λ cs. join_step (a.atoms + 1) cs a.parts _ a.height _ (entry a.next) _ _ _ c.join.result c.if-self-lt2.false (search rules) refl refl (ap (λ i. set a.parts i c.join.result) two) refl c.join.ensures c.link-rows.ensures;
+      taken = λ cs. join_step (a.atoms + 1) cs a.parts _ a.height _ (entry a.next) _ _ _ c.join.result c.if-self-lt2.false (search rules) refl refl (ap (λ i. set a.parts i c.join.result) two) refl c.join.ensures c.link_rows.ensures;
     }

@@ -6,4 +6,4 @@ use Rattle.sealed.proofs.assembly.Assembly.plus.Goals as goal
 pub returns : goal.returns
 returns c =
     let a = c.args.self.now in
-    record { atoms = refl; taken = λ cs. plus_step (a.atoms + 1) cs a.parts a.height (entry a.next) _ _ (omega arith) refl c.link-rows.ensures }
+    record { atoms = refl; taken = λ cs. plus_step (a.atoms + 1) cs a.parts a.height (entry a.next) _ _ (omega arith) refl c.link_rows.ensures }

@@ -39,12 +39,12 @@ returns-in-Some-place g c =
     let s = c.args.self.now in
     let there = c.seat-there.result in
     let e = c.seat-there.ensures in
-    let o = c.note-step-more.ensures in
+    let o = c.note_step-more.ensures in
     record {
       moved = λ m a ok right at u fit cl.
-          built_moved (subject g.M.Automaton s) (g.met.M.Automaton.proper s.automaton.now) m _ _ _ c.args.direction c.args.set c.step-target.result a c.args.here.place there.place c.args.here.gone there.gone c.note-step-more.result c.args.class c.in-Some.p c.in-Some-place.t _
+          built_moved (subject g.M.Automaton s) (g.met.M.Automaton.proper s.automaton.now) m _ _ _ c.args.direction c.args.set c.step-target.result a c.args.here.place there.place c.args.here.gone there.gone c.note_step-more.result c.args.class c.in-Some.p c.in-Some-place.t _
           ok fit cl (c.step-target.ensures a fit (sym cl)) at u e.seated c.in-Some.is c.in-Some-place.is (o.noted (e.kept.counts right)) refl refl;
       small = record { reads = omega arith; known = omega arith; built = omega arith; plain = omega arith; dropped = omega (arith, e.small, o.small, c.requires) };
-      kept = kept_then g.M.Automaton g.S.Shelf s c.seat-there.new.self c.note-step-more.new.self e.kept o.kept;
+      kept = kept_then g.M.Automaton g.S.Shelf s c.seat-there.new.self c.note_step-more.new.self e.kept o.kept;
       heard = record { between = c.seat-there.new.self; seating = e.heard; silent = o.silent };
     }

@@ -8,9 +8,9 @@ use Rattle.search.proofs.searcher.Searcher.clear.Goals as goal
 pub returns : goal.returns
 returns g c =
     let s = c.args.self.now in
-    let e = c.drop-these.ensures in
+    let e = c.drop_these.ensures in
     record {
-      did = λ entries ok. did_by g.M.Automaton g.S.Shelf g.P.Policy g.met.M.Automaton.proper s c.drop-these.new.self _ _ ok e.kept
-          (clear_answered (subject g.M.Automaton s) (memory g.S.Shelf g.P.Policy s) _ (member c.all.result) c.drop-these.result ok.sound c.all.ensures e.dropped e.gone);
+      did = λ entries ok. did_by g.M.Automaton g.S.Shelf g.P.Policy g.met.M.Automaton.proper s c.drop_these.new.self _ _ ok e.kept
+          (clear_answered (subject g.M.Automaton s) (memory g.S.Shelf g.P.Policy s) _ (member c.all.result) c.drop_these.result ok.sound c.all.ensures e.dropped e.gone);
       automaton = e.kept.automaton_same;
     }

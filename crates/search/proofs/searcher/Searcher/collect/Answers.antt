@@ -44,8 +44,8 @@ loop-span-preserved g c =
           e.automaton c.in-Some.is (pushed_left spans c.push.new.self x v.3.within p) (pushed_held spans c.push.new.self x p) c.plus-counts.ensures (e.located l.ready) l,
     )
 
-pub returns-in-default : goal.returns-in-default
-returns-in-default g c =
+pub returns-in_default : goal.returns-in_default
+returns-in_default g c =
     let v = c.loop-span.invariant in
     let spans = c.loop-span.spans in
     let e = c.locate-finding.ensures in
@@ -54,7 +54,7 @@ returns-in-default g c =
           let l = v.5 ok in
           listed_none g.M.Automaton g.S.Shelf g.P.Policy c.loop-span.self c.locate-finding.new.self (memory g.S.Shelf g.P.Policy c.args.self.now) c.args.row.now (size c.args.spans.now) c.args.from
           (held spans) (size spans - spans.used) c.loop-span.at c.loop-span.counts c.locate-finding.result _
-          e.automaton c.in-default.is refl c.plus-counts.ensures (e.located l.ready) l;
+          e.automaton c.in_default.is refl c.plus-counts.ensures (e.located l.ready) l;
       filled = v.3;
       automaton = e.automaton ∙ v.4;
     }

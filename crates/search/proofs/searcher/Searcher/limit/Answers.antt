@@ -30,10 +30,10 @@ pub returns : goal.returns
 returns g c =
     let s = c.args.self.now in
     let j = with_most s c.args.limit in
-    let e = c.drop-these.ensures in
+    let e = c.drop_these.ensures in
     record {
-      did = λ entries ok. did_by g.M.Automaton g.S.Shelf g.P.Policy g.met.M.Automaton.proper s c.drop-these.new.self _ _ ok (kept_then g.M.Automaton g.S.Shelf s j c.drop-these.new.self (kept_limit g.M.Automaton g.S.Shelf s c.args.limit) e.kept)
-          (limit_beyond (subject g.M.Automaton s) (memory g.S.Shelf g.P.Policy s) _ c.args.limit (member c.all.result) c.drop-these.result ok.sound c.if-limit-gt64.false
+      did = λ entries ok. did_by g.M.Automaton g.S.Shelf g.P.Policy g.met.M.Automaton.proper s c.drop_these.new.self _ _ ok (kept_then g.M.Automaton g.S.Shelf s j c.drop_these.new.self (kept_limit g.M.Automaton g.S.Shelf s c.args.limit) e.kept)
+          (limit_beyond (subject g.M.Automaton s) (memory g.S.Shelf g.P.Policy s) _ c.args.limit (member c.all.result) c.drop_these.result ok.sound c.if-limit-gt64.false
           (omega (arith, c.count.ensures, c.allowance.ensures, counted (member s.live) (member s.back) s.sets)) c.all.ensures e.dropped e.gone);
       idle = λ l. absurd (omega (arith, c.if-limit-gt64.false));
       automaton = e.kept.automaton_same;

@@ -7,20 +7,20 @@ use Rattle.search.proofs.searcher.Searcher.locate.Goals as goal
 pub returns-in-Some : goal.returns-in-Some
 returns-in-Some g c =
     let s = c.args.self.now in
-    let j = c.scan-back-back.new.self in
-    let n = c.scan-ahead-ahead.new.self in
+    let j = c.scan_back-back.new.self in
+    let n = c.scan_ahead-ahead.new.self in
     let r = c.args.row.now in
-    let b = c.scan-back-back.ensures in
-    let a = c.scan-ahead-ahead.ensures in
-    let P : Option ℕ → Type 0 = λ o. IfSome o (λ s. (c.scan-back-back.result.at ≤ s) × (s ≤ length r)) in
+    let b = c.scan_back-back.ensures in
+    let a = c.scan_ahead-ahead.ensures in
+    let P : Option ℕ → Type 0 = λ o. IfSome o (λ s. (c.scan_back-back.result.at ≤ s) × (s ≤ length r)) in
     let begins = subst P c.in-Some.is b.within.start in
     record {
       located = λ ok.
-          located_some g.M.Automaton g.S.Shelf g.P.Policy g.met.M.Automaton.proper j n (memory g.S.Shelf g.P.Policy s) r c.args.from c.in-Some.start c.scan-back-back.result c.scan-ahead-ahead.result _
-          a.automaton b.at c.in-Some.is c.span-of.ensures c.plus.ensures (b.backed ok) (a.reached (b.backed ok).ready);
-      inside = span_within c.in-Some.start c.scan-ahead-ahead.result.end c.args.from (length r) c.span-of.result c.span-of.ensures (omega (arith, begins.0, b.at)) a.within.end;
-      small = bounded_plus 1048576 1048576 2097152 c.scan-back-back.result.counts c.scan-ahead-ahead.result.counts c.plus.result refl
-          (bounded_more (length r - c.scan-back-back.result.at) 1048576 c.scan-back-back.result.counts (omega (arith, c.requires.short)) b.within.counts)
-          (bounded_more c.scan-ahead-ahead.result.at 1048576 c.scan-ahead-ahead.result.counts (omega (arith, a.within.at, c.requires.short)) a.within.counts) c.plus.ensures;
+          located_some g.M.Automaton g.S.Shelf g.P.Policy g.met.M.Automaton.proper j n (memory g.S.Shelf g.P.Policy s) r c.args.from c.in-Some.start c.scan_back-back.result c.scan_ahead-ahead.result _
+          a.automaton b.at c.in-Some.is c.span_of.ensures c.plus.ensures (b.backed ok) (a.reached (b.backed ok).ready);
+      inside = span_within c.in-Some.start c.scan_ahead-ahead.result.end c.args.from (length r) c.span_of.result c.span_of.ensures (omega (arith, begins.0, b.at)) a.within.end;
+      small = bounded_plus 1048576 1048576 2097152 c.scan_back-back.result.counts c.scan_ahead-ahead.result.counts c.plus.result refl
+          (bounded_more (length r - c.scan_back-back.result.at) 1048576 c.scan_back-back.result.counts (omega (arith, c.requires.short)) b.within.counts)
+          (bounded_more c.scan_ahead-ahead.result.at 1048576 c.scan_ahead-ahead.result.counts (omega (arith, a.within.at, c.requires.short)) a.within.counts) c.plus.ensures;
       automaton = a.automaton ∙ b.automaton;
     }

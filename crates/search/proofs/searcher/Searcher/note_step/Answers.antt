@@ -20,7 +20,7 @@ returns g c =
     let left = c.note.new.self in
     elim c.if-count-capacity.branch [
       | then-count-capacity w ↦
-          let d = w.drop-places-gone.ensures in
+          let d = w.drop_places-gone.ensures in
           let room : g.S.Shelf.room j.shelf ≡ g.S.Shelf.room s.shelf = ap (λ y. g.S.Shelf.room y.shelf) w.self-is ∙ d.room in
           let most : g.S.Shelf.most j.shelf ≡ g.S.Shelf.most s.shelf = ap (λ y. g.S.Shelf.most y.shelf) w.self-is ∙ d.most in
           record {
@@ -28,16 +28,16 @@ returns g c =
                 noted_full _ _ (g.S.Shelf.steps j.shelf) c.note.result p k t c.if-count-capacity.gone bounds h
                 (omega (arith, c.count.ensures right, c.capacity.ensures))
                 (ap (λ y. g.S.Shelf.steps y.shelf) w.self-is ∙ d.map ∙ ap (without (g.S.Shelf.steps s.shelf)) w.all.ensures)
-                (gone_of c.if-count-capacity.gone w.drop-places-gone.result (g.S.Shelf.room s.shelf) _ _ _ _ w.gone-is d.room (ap (λ y. g.S.Shelf.steps y.shelf) w.self-is) d.answer)
+                (gone_of c.if-count-capacity.gone w.drop_places-gone.result (g.S.Shelf.room s.shelf) _ _ _ _ w.gone-is d.room (ap (λ y. g.S.Shelf.steps y.shelf) w.self-is) d.answer)
                 (n.answer ∙ ap (λ y. notable y (g.S.Shelf.most j.shelf) (g.S.Shelf.steps j.shelf) p k t) room ∙ ap (λ y. notable (g.S.Shelf.room s.shelf) y (g.S.Shelf.steps j.shelf) p k t) most)
                 n.map
                 (ap (λ y. lives (member y.live) y.sets (member y.back)) w.self-is)
                 (ap (λ y. g.P.Policy.live y.policy) w.self-is)
                 (ap (λ y. y.limit) w.self-is)
                 (n.room ∙ room) (n.most ∙ most);
-            small = omega (arith, w.gone-is, dropped_small w.drop-places-gone.result (g.S.Shelf.room s.shelf) _ (g.S.Shelf.steps s.shelf) bounds.few d.answer);
+            small = omega (arith, w.gone-is, dropped_small w.drop_places-gone.result (g.S.Shelf.room s.shelf) _ (g.S.Shelf.steps s.shelf) bounds.few d.answer);
             kept = kept_then g.M.Automaton g.S.Shelf s j (with_shelf j left)
-                (subst (λ y. Kept g.M.Automaton g.S.Shelf s y) (sym w.self-is) (kept_shelf g.M.Automaton g.S.Shelf s w.drop-places-gone.new.self d.sound))
+                (subst (λ y. Kept g.M.Automaton g.S.Shelf s y) (sym w.self-is) (kept_shelf g.M.Automaton g.S.Shelf s w.drop_places-gone.new.self d.sound))
                 (kept_shelf g.M.Automaton g.S.Shelf j left n.sound);
             silent = ap (λ y. y.policy) w.self-is;
           }

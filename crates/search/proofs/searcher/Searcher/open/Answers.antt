@@ -16,7 +16,7 @@ returns g c =
     let d = c.empty.ensures in
     let p = c.args.policy in
     let live = g.P.Policy.live in
-    let told : live c.drop-places.new.self ≡ none = c.drop-places.ensures.live ∙ ap (less (live p)) c.all.ensures ∙ less_below (live p) (g.met.P.Policy.low p) in
+    let told : live c.drop_places.new.self ≡ none = c.drop_places.ensures.live ∙ ap (less (live p)) c.all.ensures ∙ less_below (live p) (g.met.P.Policy.low p) in
     record {
       opened = same_memory _ _ (fun_ext (λ k. no_state (member c.empty-none.result k) _ (ap (λ f. f k) c.empty-none.ensures))) d.map told refl d.room d.most;
       ready = record {

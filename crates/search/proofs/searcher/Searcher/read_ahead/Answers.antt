@@ -12,12 +12,12 @@ returns g c =
     let step = c.advance-step in
     record {
       aheaded = λ m from live h.
-          aheaded_next g.M.Automaton g.S.Shelf g.P.Policy g.met.M.Automaton.proper s step.new.self m r from scan _ c.index-row-at.result step.result c.has-last-ends.result
-          step.ensures.kept refl c.requires.more c.index-row-at.is step.ensures.moved refl c.has-last-ends.ensures c.end-at.ensures c.plus.ensures live h;
+          aheaded_next g.M.Automaton g.S.Shelf g.P.Policy g.met.M.Automaton.proper s step.new.self m r from scan _ c.index-row-at.result step.result c.has_last-ends.result
+          step.ensures.kept refl c.requires.more c.index-row-at.is step.ensures.moved refl c.has_last-ends.ensures c.end_at.ensures c.plus.ensures live h;
       at = refl;
       within = record {
         at = omega (arith, c.requires.more);
-        end = end_within c.has-last-ends.result (scan.at + 1) (length r) scan.end c.end-at.result c.end-at.ensures (omega (arith, c.requires.more)) w.end;
+        end = end_within c.has_last-ends.result (scan.at + 1) (length r) scan.end c.end_at.result c.end_at.ensures (omega (arith, c.requires.more)) w.end;
         counts = bounded_plus scan.at 1 (scan.at + 1) scan.counts step.result.counts c.plus.result refl w.counts step.ensures.small c.plus.ensures;
       };
       automaton = step.ensures.kept.automaton_same;

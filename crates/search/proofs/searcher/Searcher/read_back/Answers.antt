@@ -12,12 +12,12 @@ returns g c =
     let step = c.advance-step in
     record {
       backed = λ m h.
-          backed_next g.M.Automaton g.S.Shelf g.P.Policy g.met.M.Automaton.proper s step.new.self m r scan _ c.index-row-at.result step.result c.has-first-begins.result
-          step.ensures.kept (omega (arith, c.requires.more)) (omega (arith, c.requires.more, w.at)) c.index-row-at.is step.ensures.moved refl c.has-first-begins.ensures c.start-at.ensures c.plus.ensures h;
+          backed_next g.M.Automaton g.S.Shelf g.P.Policy g.met.M.Automaton.proper s step.new.self m r scan _ c.index-row-at.result step.result c.has_first-begins.result
+          step.ensures.kept (omega (arith, c.requires.more)) (omega (arith, c.requires.more, w.at)) c.index-row-at.is step.ensures.moved refl c.has_first-begins.ensures c.start_at.ensures c.plus.ensures h;
       at = refl;
       within = record {
         at = omega (arith, w.at);
-        start = start_within c.has-first-begins.result (scan.at - 1) scan.at (length r) scan.start c.start-at.result c.start-at.ensures (omega arith) (omega (arith, w.at)) w.start;
+        start = start_within c.has_first-begins.result (scan.at - 1) scan.at (length r) scan.start c.start_at.result c.start_at.ensures (omega arith) (omega (arith, w.at)) w.start;
         counts = bounded_plus (length r - scan.at) 1 (length r - (scan.at - 1)) scan.counts step.result.counts c.plus.result (omega (arith, c.requires.more, w.at)) w.counts step.ensures.small c.plus.ensures;
       };
       automaton = step.ensures.kept.automaton_same;

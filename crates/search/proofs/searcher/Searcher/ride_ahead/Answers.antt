@@ -14,17 +14,17 @@ returns g c =
     let r = c.args.row.now in
     let scan = c.args.scan in
     let w = c.requires.within in
-    let e = c.run-ahead-last.ensures in
-    let last = c.run-ahead-last.result in
+    let e = c.run_ahead-last.ensures in
+    let last = c.run_ahead-last.result in
     record {
       aheaded = λ m from h.
-          aheaded_from g.M.Automaton g.S.Shelf g.P.Policy g.met.M.Automaton.proper s c.touch.new.self m r from _ last (known_more (tallied scan.counts) (last.at - scan.at)) c.touch.ensures.live refl refl refl refl c.more-known.ensures
+          aheaded_from g.M.Automaton g.S.Shelf g.P.Policy g.met.M.Automaton.proper s c.touch.new.self m r from _ last (known_more (tallied scan.counts) (last.at - scan.at)) c.touch.ensures.live refl refl refl refl c.more_known.ensures
           (e.riding m from (tallied scan.counts) (riding_ahead_from g.M.Automaton g.S.Shelf g.P.Policy g.met.M.Automaton.proper s m r from scan _ c.in-Some.place c.in-Some.is refl refl refl h));
       ahead = e.ahead;
       within = record {
         at = e.within;
         end = e.end w.end;
-        counts = bounded_known scan.at (last.at - scan.at) last.at scan.counts c.more-known.result (omega (arith, e.ahead)) w.counts c.more-known.ensures;
+        counts = bounded_known scan.at (last.at - scan.at) last.at scan.counts c.more_known.result (omega (arith, e.ahead)) w.counts c.more_known.ensures;
       };
       automaton = refl;
       heard = rode c.in-Some.place last.place (member last.met) c.in-Some.is refl

@@ -14,18 +14,18 @@ returns g c =
     let r = c.args.row.now in
     let scan = c.args.scan in
     let w = c.requires.within in
-    let e = c.run-back-end.ensures in
-    let end = c.run-back-end.result in
+    let e = c.run_back-end.ensures in
+    let end = c.run_back-end.result in
     record {
       backed = λ m h.
-          backed_from g.M.Automaton g.S.Shelf g.P.Policy g.met.M.Automaton.proper s c.touch.new.self m r _ end (known_more (tallied scan.counts) (scan.at - end.at)) c.touch.ensures.live refl refl refl refl c.more-known.ensures
+          backed_from g.M.Automaton g.S.Shelf g.P.Policy g.met.M.Automaton.proper s c.touch.new.self m r _ end (known_more (tallied scan.counts) (scan.at - end.at)) c.touch.ensures.live refl refl refl refl c.more_known.ensures
           (e.riding m (tallied scan.counts) (riding_from g.M.Automaton g.S.Shelf g.P.Policy g.met.M.Automaton.proper s m r scan _ c.in-Some.place c.in-Some.is refl refl refl h));
       from = e.from;
       back = e.ahead;
       within = record {
         at = omega (arith, e.ahead, w.at);
         start = e.start (length r) w.at w.start;
-        counts = bounded_known (length r - scan.at) (scan.at - end.at) (length r - end.at) scan.counts c.more-known.result (omega (arith, e.ahead, w.at)) w.counts c.more-known.ensures;
+        counts = bounded_known (length r - scan.at) (scan.at - end.at) (length r - end.at) scan.counts c.more_known.result (omega (arith, e.ahead, w.at)) w.counts c.more_known.ensures;
       };
       automaton = refl;
       heard = rode c.in-Some.place end.place (member end.met) c.in-Some.is refl

@@ -31,14 +31,14 @@ loop-at-preserved g c =
     let begins = c.has.result in (
       omega arith,
       omega (arith, v.1),
-      (λ l. omega (arith, (b.within c.loop-at.place c.class-of-class.result next (sym known)).2, b.few)),
-      (λ n l h. start_within begins i at n c.loop-at.start c.start-at-start.result c.start-at-start.ensures (omega arith) (omega (arith, v.1)) (v.3 n l h)),
+      (λ l. omega (arith, (b.within c.loop-at.place c.class_of-class.result next (sym known)).2, b.few)),
+      (λ n l h. start_within begins i at n c.loop-at.start c.start_at-start.result c.start_at-start.ensures (omega arith) (omega (arith, v.1)) (v.3 n l h)),
       λ m k h.
           riding_next g.M.Automaton g.S.Shelf g.P.Policy g.met.M.Automaton.proper s m c.args.row.now
           (record { at = at; place = c.loop-at.place; start = c.loop-at.start; met = c.loop-at.met })
-          (record { at = i; place = next; start = c.start-at-start.result; met = c.with-met.result })
-          (known_more k (first - at)) (known_more k (first - i)) c.index-row-at.result c.class-of-class.result next begins
-          (omega arith) (omega (arith, v.1, c.requires.within)) c.index-row-at.is c.class-of-class.ensures.fits c.class-of-class.ensures.is known refl c.has.ensures c.start-at-start.ensures
+          (record { at = i; place = next; start = c.start_at-start.result; met = c.with-met.result })
+          (known_more k (first - at)) (known_more k (first - i)) c.index-row-at.result c.class_of-class.result next begins
+          (omega arith) (omega (arith, v.1, c.requires.within)) c.index-row-at.is c.class_of-class.ensures.fits c.class_of-class.ensures.is known refl c.has.ensures c.start_at-start.ensures
           (one_more k (first - at) (first - i) (omega (arith, v.1))) (v.4 m k h),
-      passed-more at i c.index-row-at.result v.5 (omega (arith, v.1), refl) c.index-row-at.is (ap (g.S.Shelf.steps s.shelf c.loop-at.place) (sym c.class-of-class.ensures.is) ∙ sym known) c.with-met.ensures,
+      passed-more at i c.index-row-at.result v.5 (omega (arith, v.1), refl) c.index-row-at.is (ap (g.S.Shelf.steps s.shelf c.loop-at.place) (sym c.class_of-class.ensures.is) ∙ sym known) c.with-met.ensures,
     )

@@ -15,8 +15,8 @@ loop-self-init g c = (
 pub loop-self-preserved : goal.loop-self-preserved
 loop-self-preserved g c =
     let v = c.loop-self.invariant in
-    let e = c.read-ahead-scan.ensures in
-    let o = c.ride-ahead-scan.ensures in
+    let e = c.read_ahead-scan.ensures in
+    let o = c.ride_ahead-scan.ensures in
     let m = memory g.S.Shelf g.P.Policy c.args.self.now in (
       o.within,
       o.automaton ∙ e.automaton ∙ v.1,
@@ -27,7 +27,7 @@ pub loop-self-smaller : goal.loop-self-smaller
 loop-self-smaller g c =
     let at = c.loop-self.scan.at in
     let l : at < length c.args.row.now = and_lt at (length c.args.row.now) _ c.loop-self-test.ensures in
-    omega (arith, c.read-ahead-scan.ensures.at, c.ride-ahead-scan.ensures.ahead)
+    omega (arith, c.read_ahead-scan.ensures.at, c.ride_ahead-scan.ensures.ahead)
 
 pub returns : goal.returns
 returns g c =

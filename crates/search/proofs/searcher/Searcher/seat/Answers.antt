@@ -13,7 +13,7 @@ use Rattle.search.proofs.Views.{here, absent, lowest, counted, less_out, with_po
 use Rattle.search.proofs.Hearing.{chain}
 use Rattle.search.proofs.Noting.{dropped_small}
 use Rattle.search.proofs.searcher.Searcher.seat.Goals as goal
-use Rattle.search.proofs.searcher.Searcher.seat.Goals.{then-count-allowance+else-is-empty, else-count-allowance}
+use Rattle.search.proofs.searcher.Searcher.seat.Goals.{then-count-allowance+else-is_empty, else-count-allowance}
 
 pub returns-in-Some : goal.returns-in-Some
 returns-in-Some g c =
@@ -28,33 +28,33 @@ returns-in-Some g c =
       heard = met_again p h.1 refl (_, (subst (λ x. g.P.Policy.hears s.policy (met x) c.touch.new.self) c.single.ensures c.touch.ensures.hears, refl));
     }
 
-pub returns-then-is-empty : goal.returns-then-is-empty
-returns-then-is-empty g c =
+pub returns-then-is_empty : goal.returns-then-is_empty
+returns-then-is_empty g c =
     let s = c.args.self.now in
     let q = c.choose-places.new.self in
     record {
-      seated = nowhere (absent s.live (member s.back) s.sets c.args.set c.args.direction c.in-default.ensures)
+      seated = nowhere (absent s.live (member s.back) s.sets c.args.set c.args.direction c.in_default.ensures)
           (omega (arith, c.count.ensures, c.allowance.ensures, counted (member s.live) (member s.back) s.sets))
           (λ k m.
           let w = c.choose-places.ensures.some k m in
-          both_ways (member c.choose-places.result w.0) (ap (λ f. f w.0) c.if-is-empty.ensures) w.1)
+          both_ways (member c.choose-places.result w.0) (ap (λ f. f w.0) c.if-is_empty.ensures) w.1)
           refl (told_policy g.S.Shelf g.P.Policy s q c.choose-places.ensures.same) refl;
       small = omega arith;
       kept = kept_policy g.M.Automaton g.S.Shelf s q;
-      heard = in-vain refl (_, (subst (λ x. g.P.Policy.hears s.policy (chose c.args.held x) q) c.if-is-empty.ensures c.choose-places.ensures.hears, refl));
+      heard = in-vain refl (_, (subst (λ x. g.P.Policy.hears s.policy (chose c.args.held x) q) c.if-is_empty.ensures c.choose-places.ensures.hears, refl));
     }
 
 pub unreachable_requires : goal.unreachable-requires
 unreachable_requires g c =
     let all = c.in-None.ensures in
     elim c.if-count-allowance.branch [
-      | then-count-allowance+else-is-empty w ↦
-          let x = w.if-is-empty.ensures in
+      | then-count-allowance+else-is_empty w ↦
+          let x = w.if-is_empty.ensures in
           let k : ℕ = x.0 in
           let l : k < 64 = member_low w.choose-places.result k x.1 in
           both_ways (member c.if-count-allowance.self.live k)
           (ap (λ s. member s.live k) w.self-is
-          ∙ ap (λ f. f k) w.drop-these-gone.ensures.live
+          ∙ ap (λ f. f k) w.drop_these-gone.ensures.live
           ∙ less_out (member c.args.self.now.live) (member w.choose-places.result) k x.1)
           (ap (λ f. f k) all ∙ lt-ltb k 64 l)
       | else-count-allowance w ↦
@@ -68,39 +68,39 @@ unreachable_requires g c =
 pub returns : goal.returns
 returns g c =
     let s = c.args.self.now in
-    let p = c.in-Some-lowest-free.p in
+    let p = c.in-Some-lowest_free.p in
     let j = c.if-count-allowance.self in
     let m : Memory PositionSet = memory g.S.Shelf g.P.Policy s in
     let v : Memory PositionSet = memory g.S.Shelf g.P.Policy j in
     let x = state c.args.direction c.args.set in
-    let free : LowestFree (held_places v) p = lowest v (member j.live) (member j.back) j.sets p refl c.in-Some-lowest-free.ensures in
-    let out = absent s.live (member s.back) s.sets c.args.set c.args.direction c.in-default.ensures in
+    let free : LowestFree (held_places v) p = lowest v (member j.live) (member j.back) j.sets p refl c.in-Some-lowest_free.ensures in
+    let out = absent s.live (member s.back) s.sets c.args.set c.args.direction c.in_default.ensures in
     let cnt = counted (member s.live) (member s.back) s.sets in
     elim c.if-count-allowance.branch [
-      | then-count-allowance+else-is-empty w ↦
+      | then-count-allowance+else-is_empty w ↦
           let places = member w.choose-places.result in
           let q = w.choose-places.new.self in
           let told : memory g.S.Shelf g.P.Policy (with_policy s q) ≡ m = told_policy g.S.Shelf g.P.Policy s q w.choose-places.ensures.same in
-          let e : v ≡ without_places m places = ap (memory g.S.Shelf g.P.Policy) w.self-is ∙ w.drop-these-gone.ensures.dropped
+          let e : v ≡ without_places m places = ap (memory g.S.Shelf g.P.Policy) w.self-is ∙ w.drop_these-gone.ensures.dropped
           ∙ ap (λ (y : Memory PositionSet). without_places y places) told in
           let F : Memory PositionSet → Type 0 = λ y. LowestFree (held_places y) p in
-          let gone : w.drop-these-gone.result + steps_known (without_places m places) ≡ steps_known m = w.drop-these-gone.ensures.gone in
+          let gone : w.drop_these-gone.result + steps_known (without_places m places) ≡ steps_known m = w.drop_these-gone.ensures.gone in
           record {
             seated = made places p out (omega (arith, c.count.ensures, c.allowance.ensures, cnt))
-                record { within = w.choose-places.ensures.within; low = member_low w.choose-places.result; some = w.if-is-empty.ensures }
+                record { within = w.choose-places.ensures.within; low = member_low w.choose-places.result; some = w.if-is_empty.ensures }
                 (subst F e free) refl
                 (c.put.ensures.put ∙ ap (λ (y : Memory PositionSet). with_set y p x) e)
                 (ap (λ y. y + steps_known (without_places m places)) w.gone-is ∙ gone);
-            small = omega (arith, w.gone-is, dropped_small w.drop-these-gone.result m.places _ m.known (g.S.Shelf.bounds s.shelf).few gone);
+            small = omega (arith, w.gone-is, dropped_small w.drop_these-gone.result m.places _ m.known (g.S.Shelf.bounds s.shelf).few gone);
             kept = kept_then g.M.Automaton g.S.Shelf s j _
                 (subst (λ y. Kept g.M.Automaton g.S.Shelf s y) (sym w.self-is)
-                (kept_then g.M.Automaton g.S.Shelf s (with_policy s q) _ (kept_policy g.M.Automaton g.S.Shelf s q) w.drop-these-gone.ensures.kept))
+                (kept_then g.M.Automaton g.S.Shelf s (with_policy s q) _ (kept_policy g.M.Automaton g.S.Shelf s q) w.drop_these-gone.ensures.kept))
                 c.put.ensures.kept;
             heard = made_free places p refl (c.put.ensures.put ∙ ap (λ (y : Memory PositionSet). with_set y p x) e) (
               q,
               (
                 w.choose-places.ensures.hears,
-                chain g.P.Policy q (dropped places) (seated p) w.drop-these-gone.new.self.policy c.put.new.self.policy w.drop-these-gone.ensures.heard
+                chain g.P.Policy q (dropped places) (seated p) w.drop_these-gone.new.self.policy c.put.new.self.policy w.drop_these-gone.ensures.heard
                     (subst (λ y. Heard g.P.Policy y.policy (seated p ∷ []) c.put.new.self.policy) w.self-is c.put.ensures.heard),
               ),
             );

@@ -16,11 +16,11 @@ returns-then-row-gt-LONGEST g c =
 
 pub returns-then-row-eq0 : goal.returns-then-row-eq0
 returns-then-row-eq0 g c =
-    let a = c.scan-ahead-ahead.ensures in
-    let n = c.scan-ahead-ahead.new.self in
+    let a = c.scan_ahead-ahead.ensures in
+    let n = c.scan_ahead-ahead.new.self in
     let r = c.args.row.now in
     record {
-      did = λ entries ok. did_whole g.M.Automaton g.S.Shelf g.P.Policy g.met.M.Automaton.proper c.args.self.now n r c.nullable.result c.scan-ahead-ahead.result ok a.automaton c.if-row-gt-LONGEST.false
+      did = λ entries ok. did_whole g.M.Automaton g.S.Shelf g.P.Policy g.met.M.Automaton.proper c.args.self.now n r c.nullable.result c.scan_ahead-ahead.result ok a.automaton c.if-row-gt-LONGEST.false
           (c.nullable.ensures ∙ whole_none (subject g.M.Automaton n) r c.if-row-eq0.true) (a.reached ok);
       idle = λ q e. absurd (some_not q (sym (short (subject g.M.Automaton c.args.self.now) c.args.row.now c.if-row-gt-LONGEST.false) ∙ e));
       automaton = a.automaton;
@@ -28,12 +28,12 @@ returns-then-row-eq0 g c =
 
 pub returns : goal.returns
 returns g c =
-    let a = c.scan-ahead-ahead.ensures in
-    let n = c.scan-ahead-ahead.new.self in
+    let a = c.scan_ahead-ahead.ensures in
+    let n = c.scan_ahead-ahead.new.self in
     let r = c.args.row.now in
     record {
-      did = λ entries ok. did_whole g.M.Automaton g.S.Shelf g.P.Policy g.met.M.Automaton.proper c.args.self.now n r _ c.scan-ahead-ahead.result ok a.automaton c.if-row-gt-LONGEST.false
-          (whole_is (subject g.M.Automaton n) r c.scan-ahead-ahead.result.end (omega arith) (a.reached ok).end_is) (a.reached ok);
+      did = λ entries ok. did_whole g.M.Automaton g.S.Shelf g.P.Policy g.met.M.Automaton.proper c.args.self.now n r _ c.scan_ahead-ahead.result ok a.automaton c.if-row-gt-LONGEST.false
+          (whole_is (subject g.M.Automaton n) r c.scan_ahead-ahead.result.end (omega arith) (a.reached ok).end_is) (a.reached ok);
       idle = λ q e. absurd (some_not q (sym (short (subject g.M.Automaton c.args.self.now) c.args.row.now c.if-row-gt-LONGEST.false) ∙ e));
       automaton = a.automaton;
     }
