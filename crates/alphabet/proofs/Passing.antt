@@ -20,15 +20,15 @@ all_below f n e = ap (λ m. shared (below m) f) e
 pub none_below : (f : Members) → none ≡ shared (below 0) f
 none_below f = fun_ext (λ k. sym (ap (λ x. x && f k) (le-ltb k 0 (omega arith))))
 
-in-width : (n : ℕ) → n < 64 → ltb n width ≡ true
+in_width : (n : ℕ) → n < 64 → ltb n width ≡ true
 unfolding width
-in-width n l = lt-ltb n 64 l
+in_width n l = lt-ltb n 64 l
 
 one_more : (f : Members) (n : ℕ) → n < 64 → f n ≡ true → plus width (shared (below n) f) n ≡ shared (below (n + 1)) f
 one_more f n l h = fun_ext (λ k.
     ⊎_elim
     (λ (e : k ≡ n).
-    ap (λ x. (x && eqb k n) || (ltb k n && f k)) (in-width n l) ∙ ap (λ x. x || (ltb k n && f k)) (eq-eqb k n e) ∙
+    ap (λ x. (x && eqb k n) || (ltb k n && f k)) (in_width n l) ∙ ap (λ x. x || (ltb k n && f k)) (eq-eqb k n e) ∙
     sym (ap (λ x. x && f k) (lt-ltb k (n + 1) (omega arith)) ∙ ap f e ∙ h))
     (⊎_elim
     (λ (u : k < n).

@@ -24,8 +24,8 @@ same_side ts code x u b =
 leb_next : (a b : ℕ) → nat_le a b ≡ not (nat_le (b + 1) a)
 leb_next a b = ⊎_elim (λ (l : b < a). lt-leb a b l ∙ sym (ap not (le-leb (b + 1) a (omega arith)))) (λ (l : a ≤ b). le-leb a b l ∙ sym (ap not (lt-leb (b + 1) a (omega arith)))) (cases_lt b a)
 
-in-range : (t : EventTest) (a b : ℕ) → nat_le t.low a ≡ nat_le t.low b → nat_le (t.high + 1) a ≡ nat_le (t.high + 1) b → passes_code t a ≡ passes_code t b
-in-range t a b e f =
+in_range : (t : EventTest) (a b : ℕ) → nat_le t.low a ≡ nat_le t.low b → nat_le (t.high + 1) a ≡ nat_le (t.high + 1) b → passes_code t a ≡ passes_code t b
+in_range t a b e f =
     let g : leb a t.high ≡ leb b t.high = leb_next a t.high ∙ ap not f ∙ sym (leb_next b t.high) in
     ap (λ x. cond t.inverted (not (x && nat_le a t.high)) (x && nat_le a t.high)) e ∙ ap (λ x. cond t.inverted (not (nat_le t.low b && x)) (nat_le t.low b && x)) g
 
@@ -34,7 +34,7 @@ asked_same : (ts : List EventTest) (a b : ℕ) → ((x : ℕ) → Bounds ts x �
 asked_same [] a b h k = refl
 asked_same (t ∷ ts) a b h zero = refl
 asked_same (t ∷ ts) a b h (suc k) =
-    ap (λ x. cond (k == 0) x (event_passes ts k a)) (in-range t a b (h t.low (inl (inl refl))) (h (t.high + 1) (inl (inr refl)))) ∙
+    ap (λ x. cond (k == 0) x (event_passes ts k a)) (in_range t a b (h t.low (inl (inl refl))) (h (t.high + 1) (inl (inr refl)))) ∙
     ap (λ x. cond (k == 0) (passes_code t b) x) (asked_same ts a b (λ x m. h x (inr m)) k)
 
 pub events_within : (ts : List EventTest) (code : ℕ) → event_class ts code < event_classes ts

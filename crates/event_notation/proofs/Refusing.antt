@@ -9,7 +9,7 @@ use Rattle.event_notation.specs.declared.Start.TheVariants.{Nothing}
 use Rattle.event_notation.specs.Numbers.{number_at}
 use Rattle.event_notation.specs.Spans.{after, range_from, range, values, coded, codes}
 use Rattle.event_notation.specs.Reading.{start_of, named, begun, lexed}
-use Rattle.event_notation.specs.Refusals.{BeginsNothing, Part, the_kind, first_value, second_value, most, Due, in-front, behind_bang, behind_colon, behind_dash, Refused, nothing_begins, no_number, reversed}
+use Rattle.event_notation.specs.Refusals.{BeginsNothing, Part, the_kind, first_value, second_value, most, Due, in_front, behind_bang, behind_colon, behind_dash, Refused, nothing_begins, no_number, reversed}
 use Rattle.event_notation.proofs.Numerals.{number_none}
 use Rattle.event_notation.proofs.Valuing.{second_none, two_reversed}
 use Rattle.event_notation.proofs.Coding.{values_none}
@@ -30,7 +30,7 @@ Fails second_value at bs e = number_at 65535 at bs ≡ Err e
 
 -- where a number is due, such a refusal is the answer
 due_fails : {place : ℕ} {text : List ℕ} {part : Part} {at : ℕ} {bs : List ℕ} → Due place text part at bs → (e : Refusal) → Fails part at bs e → lexed place text ≡ Err e
-due_fails {place} {text} (in-front b rest whole is) e fails =
+due_fails {place} {text} (in_front b rest whole is) e fails =
     ap (lexed place) whole ∙ ap (begun place (b ∷ rest)) (digit_start b is)
     ∙ ap (λ r. after r (λ s. Ok (named false s))) (ap (codes place) (sym whole) ∙ fails)
 due_fails {place} {text} (behind_bang rest whole) e fails = ap (lexed place) whole ∙ ap (λ r. after r (λ s. Ok (named true s))) fails

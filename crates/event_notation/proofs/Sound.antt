@@ -15,7 +15,7 @@ use Rattle.event_notation.specs.Numbers.{digit}
 use Rattle.event_notation.specs.Spans.{begins}
 use Rattle.event_notation.specs.Reading.{lexed}
 use Rattle.event_notation.specs.Atoms.{Meaning, any, some, others, Numeral, Form, dot, kind_alone, one_value, two_values, Selected, is_dot, is_plain, is_inverted, goes_on, Ends, AtomAt}
-use Rattle.event_notation.specs.Refusals.{sign_byte, the_kind, first_value, second_value, Due, in-front, behind_bang, behind_colon, behind_dash, Refused, nothing_begins, no_number, reversed}
+use Rattle.event_notation.specs.Refusals.{sign_byte, the_kind, first_value, second_value, Due, in_front, behind_bang, behind_colon, behind_dash, Refused, nothing_begins, no_number, reversed}
 use Rattle.event_notation.specs.Law.{Stands, Reads, Law, Lawful}
 use Rattle.event_notation.proofs.Numerals.{Front, number, none, front}
 use Rattle.event_notation.proofs.Valuing.{begins_split, ends_with}
@@ -116,7 +116,7 @@ reads_bang place rest = by (outcome place (33 ∷ rest) (place + 1) rest (behind
         (record { form = form; front = 33 ∷ picked; behind = behind; whole = ap (λ l. 33 ∷ l) whole; width = refl; atom = is_inverted picked kind low high refl s refl; ends = ends })
 
 reads_digit : (place b : ℕ) (rest : List ℕ) → digit b ≡ true → Reads place (b ∷ rest) (lexed place (b ∷ rest))
-reads_digit place b rest is = by (outcome place (b ∷ rest) place (b ∷ rest) (in-front b rest refl is))
+reads_digit place b rest is = by (outcome place (b ∷ rest) place (b ∷ rest) (in_front b rest refl is))
   where
     by : Outcome place (b ∷ rest) (b ∷ rest) → Reads place (b ∷ rest) (lexed place (b ∷ rest))
     by (fails cause at f) = reads_refused place (b ∷ rest) cause at f

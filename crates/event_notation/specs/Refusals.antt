@@ -44,7 +44,7 @@ most second_value = 65535
 -- A number is due at a place, where some bytes stand: a kind where the text begins with a digit, or behind !; a value behind
 -- a kind and a colon; a second value behind a value and -. The text begins at the first place.
 pub data Due (place : ℕ) (text : List ℕ) : Part → ℕ → List ℕ → Type 0 where
-  in-front : (b : ℕ) (rest : List ℕ) → text ≡ b ∷ rest → digit b ≡ true → Due place text the_kind place text
+  in_front : (b : ℕ) (rest : List ℕ) → text ≡ b ∷ rest → digit b ≡ true → Due place text the_kind place text
   behind_bang : (rest : List ℕ) → text ≡ 33 ∷ rest → Due place text the_kind (place + 1) rest
   behind_colon : (at : ℕ) (ds rest : List ℕ) (n : ℕ) → Due place text the_kind at (ds ++ 58 ∷ rest) → Numeral 255 ds n → Due place text first_value (at + length ds + 1) rest
   behind_dash : (at : ℕ) (ds rest : List ℕ) (n : ℕ) → Due place text first_value at (ds ++ 45 ∷ rest) → Numeral 65535 ds n → Due place text second_value (at + length ds + 1) rest

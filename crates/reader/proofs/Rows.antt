@@ -5,7 +5,7 @@ use Rattle.items.specs.declared.Placed.{Placed}
 use Rattle.items.specs.declared.Token.{Token}
 use Rattle.items.specs.declared.Token.TheVariants.{Space, Sign, Atom}
 use Rattle.reader.specs.Rows.{Lexer, Found, found, Stands, Row, with_item, items, with_test, tests}
-use Rattle.reader.specs.Reading.{with_found, then-behind, lex}
+use Rattle.reader.specs.Reading.{with_found, then_behind, lex}
 use Rattle.reader.specs.Steps.{kept}
 
 module _ {T : Type 0} (lexed : Lexer T) where
@@ -33,7 +33,7 @@ module _ {T : Type 0} (lexed : Lexer T) where
   step : (p : ℕ) (bs : List ℕ) (f : Found T) (w : ℕ) → Stands lexed p bs f w → lex lexed p 0 bs ≡ with_found f (lex lexed (p + w) 0 (drop w bs))
   step p [] f w s = let no : ⊥ = omega (arith, s.wide, s.within) in absurd no
   step p (b ∷ bs) f w s =
-      ap (λ z. then-behind p z (λ v. lex lexed (p + 1) (v - 1) bs)) s.is
+      ap (λ z. then_behind p z (λ v. lex lexed (p + 1) (v - 1) bs)) s.is
       ∙ (λ i. with_found (found f.token (sym s.here i)) (behind p w b bs s.wide i))
 
   -- the definition finds the lexemes of a row
@@ -43,7 +43,7 @@ module _ {T : Type 0} (lexed : Lexer T) where
 
   refused_here : (p : ℕ) (bs : List ℕ) (e : Refusal) → 0 < length bs → lexed p bs ≡ Err e → lex lexed p 0 bs ≡ Err e
   refused_here p [] e h d = let no : ⊥ = omega arith in absurd no
-  refused_here p (b ∷ bs) e h d = ap (λ z. then-behind p z (λ v. lex lexed (p + 1) (v - 1) bs)) d
+  refused_here p (b ∷ bs) e h d = ap (λ z. then_behind p z (λ v. lex lexed (p + 1) (v - 1) bs)) d
 
   -- and what is refused behind some lexemes
   pub row_stop : (p : ℕ) (bs : List ℕ) (fs : List (Found T)) (q : ℕ) (rest : List ℕ) (e : Refusal)

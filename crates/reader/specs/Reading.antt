@@ -16,15 +16,15 @@ with_found f (Ok fs) = Ok (f ∷ fs)
 with_found f (Err e) = Err e
 
 -- a lexeme, and what stands behind its width
-abbrev pub then-behind : {T : Type 0} → ℕ → Result (Lexeme T) Refusal → (ℕ → Result (List (Found T)) Refusal) → Result (List (Found T)) Refusal
-then-behind p (Ok x) behind = with_found (found x.token p) (behind x.width)
-then-behind p (Err e) behind = Err e
+abbrev pub then_behind : {T : Type 0} → ℕ → Result (Lexeme T) Refusal → (ℕ → Result (List (Found T)) Refusal) → Result (List (Found T)) Refusal
+then_behind p (Ok x) behind = with_found (found x.token p) (behind x.width)
+then_behind p (Err e) behind = Err e
 
 -- the lexemes from place p on, behind k more bytes of the one before
 abbrev pub lex : {T : Type 0} → Lexer T → ℕ → ℕ → List ℕ → Result (List (Found T)) Refusal
 lex lexed p k [] = Ok []
 lex lexed p (suc k) (b ∷ bs) = lex lexed (p + 1) k bs
-lex lexed p zero (b ∷ bs) = then-behind p (lexed p (b ∷ bs)) (λ w. lex lexed (p + 1) (w - 1) bs)
+lex lexed p zero (b ∷ bs) = then_behind p (lexed p (b ∷ bs)) (λ w. lex lexed (p + 1) (w - 1) bs)
 
 -- a draft's tests and codes, or why and where the text is refused
 pub data Reading (T : Type 0) : Type 0 where

@@ -11,10 +11,10 @@ use Rattle.theory.specs.Seal as seal
 pub same_part : (n n' : Bool) (f f' g g' : ℕ → Bool) → n ≡ n' → f ≡ f' → g ≡ g' → ◌≡◌ {A = seal.Part} (record { nullable = n; first = f; last = g }) (record { nullable = n'; first = f'; last = g' })
 same_part n n' f f' g g' e d h = λ i. record { nullable = e i; first = d i; last = h i }
 
-in-width : (p : ℕ) → p < 64 → ltb p width ≡ true
+in_width : (p : ℕ) → p < 64 → ltb p width ≡ true
 unfolding width
-in-width p l = lt-ltb p 64 l
+in_width p l = lt-ltb p 64 l
 
 -- the set of one position
 pub only : (p : ℕ) → p < 64 → plus width none p ≡ (λ k. eqb k p)
-only p l = fun_ext (λ k. ap (λ x. x && eqb k p || false) (in-width p l) ∙ or-false (eqb k p))
+only p l = fun_ext (λ k. ap (λ x. x && eqb k p || false) (in_width p l) ∙ or-false (eqb k p))

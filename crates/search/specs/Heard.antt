@@ -34,7 +34,7 @@ pub data SeatingHeard {M S P : Type 0} (shelf : ShelfMeaning S) (policy : Policy
   made_free : (x : Members) (p : ℕ) → r ≡ Some p → memory shelf policy t ≡ with_set (without_places (memory shelf policy s) x) p (state d set)
       → Heard policy s.policy (chose held x ∷ dropped x ∷ seated p ∷ []) t.policy → SeatingHeard shelf policy s set d held t r
   -- it was asked, and chose none
-  in-vain : r ≡ None → Heard policy s.policy (chose held none ∷ []) t.policy → SeatingHeard shelf policy s set d held t r
+  in_vain : r ≡ None → Heard policy s.policy (chose held none ∷ []) t.policy → SeatingHeard shelf policy s set d held t r
 
 -- the set of a scan was seated, holding nothing; where the scan knows its place, it is found live there
 pub data SettlingHeard {M S P : Type 0} (shelf : ShelfMeaning S) (policy : PolicyMeaning P) (s : Searcher M S P) (d : Direction) (from : Cursor) (t : Searcher M S P) (r : Option ℕ) : Type 0 where

@@ -34,8 +34,8 @@ in_one m p e = rw e tt
 one_in : (m p : ℕ) → p ∈ m → bit m p ≡ 1
 one_in m p h = eqb→eq (bit m p) 1 h
 
-pub in-or : (a b p : ℕ) → (p ∈ bit_or a b) ↔ (p ∈ a ⊎ p ∈ b)
-in-or a b p = (go, og)
+pub in_or : (a b p : ℕ) → (p ∈ bit_or a b) ↔ (p ∈ a ⊎ p ∈ b)
+in_or a b p = (go, og)
   where
     go : p ∈ bit_or a b → p ∈ a ⊎ p ∈ b
     go h =
@@ -46,11 +46,11 @@ in-or a b p = (go, og)
     og (inl h) = in_one (bit_or a b) p (omega (arith, bit_or_lem a b p, one_in a p h))
     og (inr h) = in_one (bit_or a b) p (omega (arith, bit_or_lem a b p, one_in b p h))
 
-pub in-zero : (p : ℕ) → p ∈ 0 → ⊥
-in-zero p h = omega (arith, one_in 0 p h, bit_zero p)
+pub in_zero : (p : ℕ) → p ∈ 0 → ⊥
+in_zero p h = omega (arith, one_in 0 p h, bit_zero p)
 
-pub in-pow : (n p : ℕ) → (p ∈ (2 ^ n)) ↔ (p ≡ n)
-in-pow n p = (go, λ e. in_one (2 ^ n) p (rw e (bit_pow n)))
+pub in_pow : (n p : ℕ) → (p ∈ (2 ^ n)) ↔ (p ≡ n)
+in_pow n p = (go, λ e. in_one (2 ^ n) p (rw e (bit_pow n)))
   where
     go : p ∈ (2 ^ n) → p ≡ n
     go h =
@@ -61,8 +61,8 @@ in-pow n p = (go, λ e. in_one (2 ^ n) p (rw e (bit_pow n)))
         ]
 
 -- a number below 2 ^ n has its members below n
-pub in-below : (n m p : ℕ) → m < 2 ^ n → p ∈ m → p < n
-in-below n m p h x =
+pub in_below : (n m p : ℕ) → m < 2 ^ n → p ∈ m → p < n
+in_below n m p h x =
     elim (dec_lt p n) [
       | yes l ↦ l
       | no g ↦
@@ -78,25 +78,25 @@ below_pow zero = omega arith
 below_pow (suc m) = let h = below_pow m in omega arith
 
 -- a number that is not 0 has a member
-nonzero-in : (k m : ℕ) → m < 2 ^ k → m ≢ 0 → (p : ℕ) × p ∈ m
-nonzero-in zero m h n = absurd (omega arith)
-nonzero-in (suc k) m h n =
+nonzero_in : (k m : ℕ) → m < 2 ^ k → m ≢ 0 → (p : ℕ) × p ∈ m
+nonzero_in zero m h n = absurd (omega arith)
+nonzero_in (suc k) m h n =
     elim (ℕ_discrete (m % 2) 1) [
       | yes e ↦ (0, in_one m 0 (rw div-one e))
       | no x ↦
-          let r = nonzero-in k (m / 2) (omega arith) (omega arith) in
+          let r = nonzero_in k (m / 2) (omega arith) (omega arith) in
           let q : m / 2 / 2 ^ r.0 ≡ m / 2 ^ (1 + r.0) = shr-shr m 1 r.0 in
           (1 + r.0, in_one m (1 + r.0) (rw (← q) (one_in (m / 2) r.0 r.1)))
     ]
 
 pub empty_is : (m : ℕ) → T (eqb m 0) ↔ ((p : ℕ) → p ∈ m → ⊥)
-empty_is m = (λ h p i. in-zero p (rw (eqb→eq m 0 h) at i), og)
+empty_is m = (λ h p i. in_zero p (rw (eqb→eq m 0 h) at i), og)
   where
     og : ((p : ℕ) → p ∈ m → ⊥) → T (eqb m 0)
     og n =
         elim (ℕ_discrete m 0) [
           | yes e ↦ rw e tt
-          | no x ↦ let r = nonzero-in m m (below_pow m) x in absurd (n r.0 r.1)
+          | no x ↦ let r = nonzero_in m m (below_pow m) x in absurd (n r.0 r.1)
         ]
 
 -- masks with the same members are one number

@@ -53,8 +53,8 @@ smallest_more P i (Some s) n (j, e, p, least) = (suc j, omega arith, p, go)
 
 -- matches as fits
 module _ {Sym : Type 0} (L : List Sym → Type 0) (r : List Sym) where
-  match-fits : (x : Span) → Match L r x → Fits L (drop x.start r) (x.end - x.start)
-  match-fits x h = (omega (arith, h.some), omega (arith, h.some, h.inside, length-drop x.start r), h.word)
+  match_fits : (x : Span) → Match L r x → Fits L (drop x.start r) (x.end - x.start)
+  match_fits x h = (omega (arith, h.some), omega (arith, h.some, h.inside, length-drop x.start r), h.word)
 
   fits_match : (s k : ℕ) → Fits L (drop s r) k → Match L r (span s (s + k))
   fits_match s k h =
@@ -106,8 +106,8 @@ module _ {Sym Set : Type 0} (passes : ℕ → Sym → Bool) (P : Positions) (m :
       ]) refl
 
   module _ (L : List Sym → Type 0) (tell : Tell passes P L) where
-    match-marked : (r : List Sym) (from : ℕ) (x : Span) → from ≤ x.start → Match L r x → Marked (drop from r) (x.start - from)
-    match-marked r from x h y = rw (from_drop L r from x.start h) ((back_says passes P m lawful L tell (drop x.start r)).1 (x.end - x.start, match-fits L r x y))
+    match_marked : (r : List Sym) (from : ℕ) (x : Span) → from ≤ x.start → Match L r x → Marked (drop from r) (x.start - from)
+    match_marked r from x h y = rw (from_drop L r from x.start h) ((back_says passes P m lawful L tell (drop x.start r)).1 (x.end - x.start, match_fits L r x y))
 
     none_marked : T (m.first m.begin) → ⊥
     none_marked x = let k = (back_says passes P m lawful L tell []).0 x in omega (arith, k.1.0, k.1.1)
@@ -117,7 +117,7 @@ module _ {Sym Set : Type 0} (passes : ℕ → Sym → Bool) (P : Positions) (m :
         let k = (back_says passes P m lawful L tell (drop s r)).0 x in absurd (n k.0 ((ahead_says passes P m lawful L tell (drop s r) k.0).1 k.1))
     longest r s x e (inr (k, h, q, most)) = (
       rw q (fits_match L r s k ((ahead_says passes P m lawful L tell (drop s r) k).0 h)),
-      λ e' y. omega (arith, most (e' - s) ((ahead_says passes P m lawful L tell (drop s r) (e' - s)).1 (match-fits L r (span s e') y))),
+      λ e' y. omega (arith, most (e' - s) ((ahead_says passes P m lawful L tell (drop s r) (e' - s)).1 (match_fits L r (span s e') y))),
     )
 
     -- the two scans answer what the relation asks
@@ -125,13 +125,13 @@ module _ {Sym Set : Type 0} (passes : ℕ → Sym → Bool) (P : Positions) (m :
     find_finds r from = go (start m from (drop from r)) (start_is none_marked from (drop from r))
       where
         go : (o : Option ℕ) → Smallest (Marked (drop from r)) from o → Finds L r from (from_start m r o)
-        go None h = λ y b x. h (y.start - from) (match-marked r from y b x)
+        go None h = λ y b x. h (y.start - from) (match_marked r from y b x)
         go (Some s) (j, e, p, least) =
             let q : drop j (drop from r) ≡ drop s r = drop-drop j from r ∙ ap (λ k. drop k r) (sym e) in
             let f = longest r s (rw q at p) (far m s s m.begin (drop s r)) (far_is s s m.begin (drop s r)) in
             record {
               behind = omega arith;
               match = f.0;
-              leftmost = λ y b x. omega (arith, least (y.start - from) (match-marked r from y b x));
+              leftmost = λ y b x. omega (arith, least (y.start - from) (match_marked r from y b x));
               longest = f.1;
             }

@@ -7,31 +7,31 @@ use Rattle.theory.specs.Steps.{Ahead, Back, Meets}
 use Rattle.theory.specs.Machine.{Lawful}
 use Rattle.theory.specs.Masks.{holds, those, some, ahead_set, back_set, common, masks, Within, machine}
 use Rattle.theory.proofs.Tests.{or_left, or_right, or_cases, and_is, or_is, eq_is, self_is, same_test}
-use Rattle.theory.proofs.Bit.{◌∈◌, in-or, in-zero, in-pow, in-below, empty_is, same_members}
+use Rattle.theory.proofs.Bit.{◌∈◌, in_or, in_zero, in_pow, in_below, empty_is, same_members}
 use Rattle.theory.proofs.Numbers.{range, first_in, last_in, follow_in}
 use Rattle.theory.proofs.Places.{first_is, last_is, follow_is}
 
-in-cond : (b : Bool) (m p : ℕ) → (p ∈ cond b m 0) ↔ (T b × p ∈ m)
-in-cond true m p = (λ h. (tt, h), λ h. h.1)
-in-cond false m p = (λ h. absurd (in-zero p h), λ h. absurd h.0)
+in_cond : (b : Bool) (m p : ℕ) → (p ∈ cond b m 0) ↔ (T b × p ∈ m)
+in_cond true m p = (λ h. (tt, h), λ h. h.1)
+in_cond false m p = (λ h. absurd (in_zero p h), λ h. absurd h.0)
 
 pub those_is : (n : ℕ) (f : ℕ → Bool) (p : ℕ) → (p ∈ those n f) ↔ ((p < n) × T (f p))
 unfolding those
-those_is zero f p = (λ h. absurd (in-zero p h), λ h. absurd (omega (arith, h.0)))
+those_is zero f p = (λ h. absurd (in_zero p h), λ h. absurd (omega (arith, h.0)))
 those_is (suc k) f p = (
   λ h.
-      elim ((in-or (those k f) (cond (f k) (2 ^ k) 0) p).0 h) [
+      elim ((in_or (those k f) (cond (f k) (2 ^ k) 0) p).0 h) [
         | inl x ↦ let y = (those_is k f p).0 x in (omega (arith, y.0), y.1)
         | inr x ↦
-            let y = (in-cond (f k) (2 ^ k) p).0 x in
-            let e : p ≡ k = (in-pow k p).0 y.1 in
+            let y = (in_cond (f k) (2 ^ k) p).0 x in
+            let e : p ≡ k = (in_pow k p).0 y.1 in
             (omega arith, rw e y.0)
       ],
   λ h.
-      (in-or (those k f) (cond (f k) (2 ^ k) 0) p).1
+      (in_or (those k f) (cond (f k) (2 ^ k) 0) p).1
       (elim (dec_lt p k) [
         | yes l ↦ inl ((those_is k f p).1 (l, h.1))
-        | no n ↦ let e : p ≡ k = omega (arith, h.0) in inr ((in-cond (f k) (2 ^ k) p).1 (rw e at h.1, (in-pow k p).1 e))
+        | no n ↦ let e : p ≡ k = omega (arith, h.0) in inr ((in_cond (f k) (2 ^ k) p).1 (rw e at h.1, (in_pow k p).1 e))
       ]),
 )
 
@@ -58,7 +58,7 @@ those_holds n f p h = same_test (holds (those n f) p) (f p) (λ x. ((those_is n 
 pub number_those : (n S : ℕ) (f : ℕ → Bool) → S < 2 ^ n → ((p : ℕ) → p < n → holds S p ≡ f p) → S ≡ those n f
 number_those n S f h e =
     same_members S (those n f) (λ p. (
-      λ x. let l = in-below n S p h x in (those_is n f p).1 (l, subst T (e p l) x),
+      λ x. let l = in_below n S p h x in (those_is n f p).1 (l, subst T (e p l) x),
       λ x. let y = (those_is n f p).0 x in subst T (sym (e p y.0)) y.1,
     ))
 
@@ -137,7 +137,7 @@ module _ {Sym : Type 0} (n : ℕ) (passes : ℕ → Sym → Bool) (P : Positions
   pub masks_lawful : Lawful passes P (masks n passes P)
   masks_lawful =
       record {
-        begin_is = in-pow 0;
+        begin_is = in_pow 0;
         ahead_is = ahead_is;
         back_is = back_is;
         first_is = λ S. among S P.first within.first;

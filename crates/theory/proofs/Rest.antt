@@ -6,7 +6,7 @@ use Rattle.theory.specs.Words.{Many, Then, Word}
 use Rattle.theory.specs.Words.Many.{none}
 use Rattle.theory.proofs.Numbers.{In, Distinct, first_in, follow_in}
 use Rattle.theory.proofs.Places.{First, Last, Follow}
-use Rattle.theory.proofs.Words.{cons≢nil, then-nil, then-cons, cons_then, then_map, many_cons, cons_many, null_word, word_null}
+use Rattle.theory.proofs.Words.{cons≢nil, then_nil, then_cons, cons_then, then_map, many_cons, cons_many, null_word, word_null}
 
 module _ {Sym : Type 0} (passes : ℕ → Sym → Bool) where
   -- w ends a word of t in which the symbol before w stood at p
@@ -41,12 +41,12 @@ module _ {Sym : Type 0} (passes : ℕ → Sym → Bool) where
 
   pub rest_last : (t : Tree) (p : ℕ) → Rest t p [] → Last t p
   rest_last (atom n) p h = h.0
-  rest_last (join l r) p (inl h) = let c = then-nil (Rest l p) (Word passes r) h in inr (word_null passes r c.1, rest_last l p c.0)
+  rest_last (join l r) p (inl h) = let c = then_nil (Rest l p) (Word passes r) h in inr (word_null passes r c.1, rest_last l p c.0)
   rest_last (join l r) p (inr h) = inl (rest_last r p h)
   rest_last (choice l r) p (inl h) = inl (rest_last l p h)
   rest_last (choice l r) p (inr h) = inr (rest_last r p h)
-  rest_last (star t) p h = rest_last t p (then-nil (Rest t p) (Many (Word passes t)) h).0
-  rest_last (plus t) p h = rest_last t p (then-nil (Rest t p) (Many (Word passes t)) h).0
+  rest_last (star t) p h = rest_last t p (then_nil (Rest t p) (Many (Word passes t)) h).0
+  rest_last (plus t) p h = rest_last t p (then_nil (Rest t p) (Many (Word passes t)) h).0
   rest_last (maybe t) p h = rest_last t p h
 
   -- a ∷ w is a word whose first symbol stands at a first position
@@ -59,7 +59,7 @@ module _ {Sym : Type 0} (passes : ℕ → Sym → Bool) where
   pub word_starts : (t : Tree) (a : Sym) (w : List Sym) → Word passes t (a ∷ w) → Starts t a w
   word_starts (atom n) a w h = (n, refl, subst (λ b. T (passes n b)) (cc) h.1, (refl, cc))
   word_starts (join l r) a w h =
-      elim (then-cons (Word passes l) (Word passes r) a w h) [
+      elim (then_cons (Word passes l) (Word passes r) a w h) [
         | inl c ↦ let s = word_starts r a w c.1 in (s.0, inr (word_null passes l c.0, s.1), s.2, inr s.3)
         | inr c ↦ let s = word_starts l a c.0 c.2 in (s.0, inl s.1, s.2, inl (c.0, c.1, s.3, c.3, c.4))
       ]
@@ -68,7 +68,7 @@ module _ {Sym : Type 0} (passes : ℕ → Sym → Bool) where
   word_starts (star t) a w h = many_starts t a w (word_starts t a) (many_cons (Word passes t) a w h)
   word_starts (plus t) a w h =
       many_starts t a w (word_starts t a)
-      (elim (then-cons (Word passes t) (Many (Word passes t)) a w h) [
+      (elim (then_cons (Word passes t) (Many (Word passes t)) a w h) [
         | inl c ↦ many_cons (Word passes t) a w c.1
         | inr c ↦ c
       ])
@@ -97,9 +97,9 @@ module _ {Sym : Type 0} (passes : ℕ → Sym → Bool) where
   Steps t p a w = (q : ℕ) × Follow t p q × T (passes q a) × Rest t q w
 
   -- a loop over t: what is left of this turn, then more turns
-  loop-steps : (t : Tree) (p : ℕ) (a : Sym) (w : List Sym) → ((u : List Sym) → Rest t p (a ∷ u) → Steps t p a u) → Rest (star t) p (a ∷ w) → Steps (star t) p a w
-  loop-steps t p a w ih h =
-      elim (then-cons (Rest t p) (Many (Word passes t)) a w h) [
+  loop_steps : (t : Tree) (p : ℕ) (a : Sym) (w : List Sym) → ((u : List Sym) → Rest t p (a ∷ u) → Steps t p a u) → Rest (star t) p (a ∷ w) → Steps (star t) p a w
+  loop_steps t p a w ih h =
+      elim (then_cons (Rest t p) (Many (Word passes t)) a w h) [
         | inl c ↦
             let m = many_cons (Word passes t) a w c.1 in
             let s = word_starts t a m.0 m.2 in
@@ -110,15 +110,15 @@ module _ {Sym : Type 0} (passes : ℕ → Sym → Bool) where
   pub rest_steps : (t : Tree) (p : ℕ) (a : Sym) (w : List Sym) → Rest t p (a ∷ w) → Steps t p a w
   rest_steps (atom n) p a w h = absurd (cons≢nil h.1)
   rest_steps (join l r) p a w (inl h) =
-      elim (then-cons (Rest l p) (Word passes r) a w h) [
+      elim (then_cons (Rest l p) (Word passes r) a w h) [
         | inl c ↦ let s = word_starts r a w c.1 in (s.0, inr (rest_last l p c.0, s.1), s.2, inr s.3)
         | inr c ↦ let s = rest_steps l p a c.0 c.2 in (s.0, inl (inl s.1), s.2, inl (c.0, c.1, s.3, c.3, c.4))
       ]
   rest_steps (join l r) p a w (inr h) = let s = rest_steps r p a w h in (s.0, inl (inr s.1), s.2, inr s.3)
   rest_steps (choice l r) p a w (inl h) = let s = rest_steps l p a w h in (s.0, inl s.1, s.2, inl s.3)
   rest_steps (choice l r) p a w (inr h) = let s = rest_steps r p a w h in (s.0, inr s.1, s.2, inr s.3)
-  rest_steps (star t) p a w h = loop-steps t p a w (rest_steps t p a) h
-  rest_steps (plus t) p a w h = loop-steps t p a w (rest_steps t p a) h
+  rest_steps (star t) p a w h = loop_steps t p a w (rest_steps t p a) h
+  rest_steps (plus t) p a w h = loop_steps t p a w (rest_steps t p a) h
   rest_steps (maybe t) p a w h = rest_steps t p a w h
 
   steps_loop : (t : Tree) → Distinct t → (p q : ℕ) (a : Sym) (w : List Sym) → ((u : List Sym) → Follow t p q → Rest t q u → Rest t p (a ∷ u)) → Follow (star t) p q → T (passes q a) → Rest (star t) q w → Rest (star t) p (a ∷ w)

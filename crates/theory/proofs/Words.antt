@@ -12,15 +12,15 @@ module _ {A : Type 0} where
   cons≢nil e = let z : ◌≡◌ {A = ℕ} 0 1 = cc in omega arith
 
   -- two words in a row, and many: empty, or beginning with a
-  pub then-nil : (L M : List A → Type 0) → Then L M [] → L [] × M []
-  then-nil L M h = go h.0 h.1 h.4 h.2 h.3
+  pub then_nil : (L M : List A → Type 0) → Then L M [] → L [] × M []
+  then_nil L M h = go h.0 h.1 h.4 h.2 h.3
     where
       go : (u v : List A) → [] ≡ u ++ v → L u → M v → L [] × M []
       go [] v e l m = (l, subst M (sym e) m)
       go (b ∷ u) v e l m = absurd (cons≢nil (sym e))
 
-  pub then-cons : (L M : List A → Type 0) (a : A) (w : List A) → Then L M (a ∷ w) → (L [] × M (a ∷ w)) ⊎ Then (λ u. L (a ∷ u)) M w
-  then-cons L M a w h = go h.0 h.1 h.4 h.2 h.3
+  pub then_cons : (L M : List A → Type 0) (a : A) (w : List A) → Then L M (a ∷ w) → (L [] × M (a ∷ w)) ⊎ Then (λ u. L (a ∷ u)) M w
+  then_cons L M a w h = go h.0 h.1 h.4 h.2 h.3
     where
       go : (u v : List A) → a ∷ w ≡ u ++ v → L u → M v → (L [] × M (a ∷ w)) ⊎ Then (λ u. L (a ∷ u)) M w
       go [] v e l m = inl (l, subst M (sym e) m)
@@ -55,9 +55,9 @@ module _ {Sym : Type 0} (passes : ℕ → Sym → Bool) where
   pub word_null : (t : Tree) → Word passes t [] → T (nullable t)
   word_null (atom n) h = absurd (cons≢nil (sym h.2))
   word_null (join l r) h =
-      let c = then-nil (Word passes l) (Word passes r) h in and_both (nullable l) (nullable r) (word_null l c.0) (word_null r c.1)
+      let c = then_nil (Word passes l) (Word passes r) h in and_both (nullable l) (nullable r) (word_null l c.0) (word_null r c.1)
   word_null (choice l r) (inl x) = or_left (nullable l) (nullable r) (word_null l x)
   word_null (choice l r) (inr y) = or_right (nullable l) (nullable r) (word_null r y)
   word_null (star t) h = tt
-  word_null (plus t) h = word_null t (then-nil (Word passes t) (Many (Word passes t)) h).0
+  word_null (plus t) h = word_null t (then_nil (Word passes t) (Many (Word passes t)) h).0
   word_null (maybe t) h = tt

@@ -4,16 +4,16 @@ use Rattle.dense_shelf.specs.Rows.{dense}
 use Rattle.dense_shelf.proofs.Sweeps.{RowsInv, swept_none, swept_more, rows_more, all_clean, swept_few}
 use Rattle.dense_shelf.proofs.layout.forget_one.Goals as goal
 
-pub overflow-add-gone : goal.overflow-add-gone
-overflow-add-gone c =
+pub overflow_add-gone : goal.overflow_add-gone
+overflow_add-gone c =
     omega (
       arith,
       swept_few c.args.n (plus 64 none c.args.p) _ _ c.loop-c.gone (omega arith) c.loop-c.invariant.0,
       swept_few c.args.n (plus 64 none c.args.p) _ _ c.forget_from-gone.result (omega arith) c.forget_from-gone.ensures.swept,
     )
 
-pub overflow-add-gone-in-loop-c : goal.overflow-add-gone-in-loop-c
-overflow-add-gone-in-loop-c c =
+pub overflow_add-gone-in-loop-c : goal.overflow_add-gone-in-loop-c
+overflow_add-gone-in-loop-c c =
     omega (
       arith,
       swept_few c.args.n (plus 64 none c.args.p) _ _ c.loop-c.gone (omega arith) c.loop-c.invariant.0,

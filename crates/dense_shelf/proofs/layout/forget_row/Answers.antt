@@ -14,8 +14,8 @@ pub bounds-bytes-at-then-doomed : goal.bounds-bytes-at-then-doomed
 bounds-bytes-at-then-doomed c =
     omega (arith, cell_low c.args.n c.args.used c.args.c c.loop-p.p (omega arith) c.loop-p-test.true, cells_fit c.args.n c.args.used (length c.loop-p.bytes) (omega arith) (omega arith))
 
-pub overflow-add-gone : goal.overflow-add-gone
-overflow-add-gone c = omega (arith, swept_few c.args.n (member c.args.places) _ _ c.loop-p.gone (omega arith) c.loop-p.invariant.0)
+pub overflow_add-gone : goal.overflow_add-gone
+overflow_add-gone c = omega (arith, swept_few c.args.n (member c.args.places) _ _ c.loop-p.gone (omega arith) c.loop-p.invariant.0)
 
 pub loop-p-init : goal.loop-p-init
 loop-p-init c = (swept_none c.args.n (member c.args.places) (dense c.args.bytes.now c.args.n c.args.used), (λ q (h : q < 0). absurd (omega arith)), refl)

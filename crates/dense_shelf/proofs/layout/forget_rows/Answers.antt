@@ -4,8 +4,8 @@ use Rattle.dense_shelf.specs.Rows.{dense}
 use Rattle.dense_shelf.proofs.Sweeps.{swept_none, rows_more, all_clean, swept_few}
 use Rattle.dense_shelf.proofs.layout.forget_rows.Goals as goal
 
-pub overflow-add-gone : goal.overflow-add-gone
-overflow-add-gone c =
+pub overflow_add-gone : goal.overflow_add-gone
+overflow_add-gone c =
     omega (
       arith,
       swept_few c.args.n (member c.args.places) _ _ c.loop-c.gone (omega arith) c.loop-c.invariant.0,

@@ -3,11 +3,11 @@ use Rattle.event_classes.specs.Cuts.{cuts}
 use Rattle.event_classes.proofs.Inserting.{cut_more, cut_none, ascending_low, ascending_high}
 use Rattle.event_classes.proofs.table.cut_by.Goals as goal
 
-pub cut_at_count_requires : goal.cut_at-count-requires
-cut_at_count_requires c = record { room = omega arith; ascending = c.loop-test.invariant.2 }
+pub cut_at-count-requires : goal.cut_at-count-requires
+cut_at-count-requires c = record { room = omega arith; ascending = c.loop-test.invariant.2 }
 
-pub cut_behind_count_requires : goal.cut_behind-count-requires
-cut_behind_count_requires c = record {
+pub cut_behind-count-requires : goal.cut_behind-count-requires
+cut_behind-count-requires c = record {
   room = omega arith;
   ascending = ascending_low c.args.tests.now c.loop-test.test-index _ (take c.loop-test.count c.loop-test.codes) _ c.loop-test.invariant.2 c.cut_at-count.ensures.is;
 }

@@ -4,8 +4,8 @@ use Rattle.event_classes.proofs.Inserting.{insert_old, insert_new}
 use Rattle.event_classes.proofs.table.insert.Goals as goal
 use Rattle.event_classes.proofs.table.insert.Goals.{else-place-gt0-via-then-place-gt0+else-codes-place, else-place-gt0-via-else-place-gt0}
 
-pub rank_place_requires : goal.rank-place-requires
-rank_place_requires c = c.requires.ascending
+pub rank-place-requires : goal.rank-place-requires
+rank-place-requires c = c.requires.ascending
 
 pub bounds-codes-place : goal.bounds-codes-place
 bounds-codes-place c = omega (arith, length-take-le c.args.count c.args.codes.now (omega arith))
@@ -16,8 +16,8 @@ returns-then-codes-place c = record {
   is = insert_old c.args.codes.now c.args.count c.args.code c.rank-place.result (omega arith) c.requires.ascending c.rank-place.ensures.is c.if-place-gt0.true c.if-codes-place.true;
 }
 
-pub copy_within_requires : goal.copy_within-requires
-copy_within_requires c =
+pub copy_within-requires : goal.copy_within-requires
+copy_within-requires c =
     let e : length (take c.args.count c.args.codes.now) ≡ c.args.count = length-take-le c.args.count c.args.codes.now (omega arith) in
     record { start-le-end = omega arith; in_bounds = omega arith; dest-in-bounds = omega arith; not-exhausted = tt }
 

@@ -13,15 +13,15 @@ use Rattle.event_classes.proofs.table.tabulate.Goals as goal
 told : (ts : List EventTest) (cs ds : List ℕ) (passing : List PositionSet) → cs ≡ ds → ((c k : ℕ) → c < length cs + 1 → holds (get_or passing c blank) k ≡ passed_code ts (lowest_code cs c) k) → (c k : ℕ) → c < length ds + 1 → holds (get_or passing c blank) k ≡ passed_code ts (lowest_code ds c) k
 told ts cs ds passing e h = rw e at h
 
-pub ranks_lowest_requires : goal.ranks-lowest-requires
-ranks_lowest_requires c = record {
+pub ranks-lowest-requires : goal.ranks-lowest-requires
+ranks-lowest-requires c = record {
   ascending = ascending_cuts c.args.tests.now _ c.cut_by-count.ensures.is;
   short = omega (arith, length-take c.cut_by-count.result c.cut_by-count.new.codes);
   low = omega arith;
 }
 
-pub ranks_highest_requires : goal.ranks-highest-requires
-ranks_highest_requires c = record {
+pub ranks-highest-requires : goal.ranks-highest-requires
+ranks-highest-requires c = record {
   ascending = ascending_cuts c.args.tests.now _ c.cut_by-count.ensures.is;
   short = omega (arith, length-take c.cut_by-count.result c.cut_by-count.new.codes);
   low = omega arith;

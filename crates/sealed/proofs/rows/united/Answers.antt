@@ -5,8 +5,8 @@ use Rattle.sealed.proofs.rows.united.Goals as goal
 pub bounds-rows-p : goal.bounds-rows-p
 bounds-rows-p c = member_low c.args.members c.loop-p.from c.in-Some.p c.in-Some.ensures
 
-pub overflow-add-from : goal.overflow-add-from
-overflow-add-from c = let l = member_low c.args.members c.loop-p.from c.in-Some.p c.in-Some.ensures in omega arith
+pub overflow_add-from : goal.overflow_add-from
+overflow_add-from c = let l = member_low c.args.members c.loop-p.from c.in-Some.p c.in-Some.ensures in omega arith
 
 pub loop-p-smaller : goal.loop-p-smaller
 loop-p-smaller c =

@@ -3,8 +3,8 @@ use Rattle.pair_shelf.specs.Bounded.{pairs_zero}
 use Rattle.pair_shelf.proofs.Keep.{fine_zero}
 use Rattle.pair_shelf.proofs.pair.PairShelfShelf.empty.Goals as goal
 
-pub invariant-of-self : goal.invariant-of-self
-invariant-of-self c = (omega arith, (fine_zero c.args.self.now.steps, tt))
+pub invariant_of-self : goal.invariant_of-self
+invariant_of-self c = (omega arith, (fine_zero c.args.self.now.steps, tt))
 
 pub returns : goal.returns
 returns c = record { room = refl; most = refl; map = pairs_zero c.args.self.now.steps; sound = tt }

@@ -13,8 +13,8 @@ returns-then-len-ge512 c =
       map = search rules;
     }
 
-pub invariant-of-self : goal.invariant-of-self
-invariant-of-self c =
+pub invariant_of-self : goal.invariant_of-self
+invariant_of-self c =
     let s = c.args.self.now in
     let l : s.len < length s.steps = omega arith in (
       omega arith,

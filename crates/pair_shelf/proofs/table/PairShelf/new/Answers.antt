@@ -3,8 +3,8 @@ use Rattle.pair_shelf.specs.Bounded.{pairs_zero}
 use Rattle.pair_shelf.proofs.Keep.{fine_zero}
 use Rattle.pair_shelf.proofs.table.PairShelf.new.Goals as goal
 
-pub invariant-of-result : goal.invariant-of-result
-invariant-of-result c = (omega arith, (fine_zero _, tt))
+pub invariant_of-result : goal.invariant_of-result
+invariant_of-result c = (omega arith, (fine_zero _, tt))
 
 pub returns : goal.returns
 returns c = pairs_zero _

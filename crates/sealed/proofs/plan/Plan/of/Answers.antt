@@ -16,8 +16,8 @@ loop-i-preserved c =
       copied_more l.own c.args.codes.now l.i x Atom (omega (arith, l.invariant.0, few)) c.loop-i-test.true refl l.invariant.1,
     )
 
-pub invariant-of-result : goal.invariant-of-result
-invariant-of-result c =
+pub invariant_of-result : goal.invariant_of-result
+invariant_of-result c =
     let l = c.loop-i in
     let cs = c.args.codes.now in
     let e = copied_all l.own cs l.i (omega arith) l.invariant.1 in

@@ -4,8 +4,8 @@ use Rattle.theory.specs.Positions.{positions}
 use Rattle.sealed.proofs.Showing.{shows_codes, none_left, atoms_more, rest_more, rest_none, rest_all}
 use Rattle.sealed.proofs.tables.Tables.of.Goals as goal
 
-pub step_requires : goal.step-requires
-step_requires c =
+pub step-requires : goal.step-requires
+step-requires c =
     let l = c.loop-code in omega (arith, atoms_more c.args.codes.now l.code-index l.assembly.atoms Atom c.loop-code-test.true l.invariant.0)
 
 pub returns-then-not-step : goal.returns-then-not-step

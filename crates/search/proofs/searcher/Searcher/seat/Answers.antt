@@ -7,7 +7,7 @@ use Rattle.sets.proofs.Known.{member_low}
 use Rattle.law.specs.Memory.{Memory, Seated, already, room, made, nowhere, held_places, without_places, with_set, steps_known}
 use Rattle.law.proofs.Tally.{tally_lowest}
 use Rattle.memory.specs.Live.News.{seated, dropped, met, chose}
-use Rattle.search.specs.Heard.{Heard, met_again, took_free, made_free, in-vain}
+use Rattle.search.specs.Heard.{Heard, met_again, took_free, made_free, in_vain}
 use Rattle.search.specs.Remembered.{memory, state, Kept}
 use Rattle.search.proofs.Views.{here, absent, lowest, counted, less_out, with_policy, kept_policy, told_policy, kept_then}
 use Rattle.search.proofs.Hearing.{chain}
@@ -41,11 +41,11 @@ returns-then-is_empty g c =
           refl (told_policy g.S.Shelf g.P.Policy s q c.choose-places.ensures.same) refl;
       small = omega arith;
       kept = kept_policy g.M.Automaton g.S.Shelf s q;
-      heard = in-vain refl (_, (subst (λ x. g.P.Policy.hears s.policy (chose c.args.held x) q) c.if-is_empty.ensures c.choose-places.ensures.hears, refl));
+      heard = in_vain refl (_, (subst (λ x. g.P.Policy.hears s.policy (chose c.args.held x) q) c.if-is_empty.ensures c.choose-places.ensures.hears, refl));
     }
 
-pub unreachable_requires : goal.unreachable-requires
-unreachable_requires g c =
+pub unreachable-requires : goal.unreachable-requires
+unreachable-requires g c =
     let all = c.in-None.ensures in
     elim c.if-count-allowance.branch [
       | then-count-allowance+else-is_empty w ↦
