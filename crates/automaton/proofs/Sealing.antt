@@ -34,13 +34,13 @@ lifted m Back S a b e = set_of _ _ e
 lift_lawful : {Sym : Type 0} (passes : ℕ → Sym → Bool) (P : Positions) (m : Machine Sym ℕ) → Lawful passes P m → Lawful passes P (on_sets m)
 lift_lawful passes P m l =
     record {
-      begin_is = l.begin-is;
-      ahead_is = λ S a p. l.ahead-is S.bits a p;
+      begin_is = l.begin_is;
+      ahead_is = λ S a p. l.ahead_is S.bits a p;
       back_is = λ S a p. l.back_is S.bits a p;
-      first_is = λ S. l.first-is S.bits;
-      last_is = λ S. l.last-is S.bits;
-      empty_is = λ S. l.empty-is S.bits;
-      nullable_is = l.nullable-is;
+      first_is = λ S. l.first_is S.bits;
+      last_is = λ S. l.last_is S.bits;
+      empty_is = λ S. l.empty_is S.bits;
+      nullable_is = l.nullable_is;
     }
 
 -- what an alphabet promises

@@ -65,7 +65,7 @@ module _ {M S P Sym : Type 0} (automaton : AutomatonMeaning M Sym) (shelf : Shel
   did_found s n r f finding ready e l h w =
       did_as s n (Search (Find r f)) (Searched (Found finding.span) (tallied finding.counts)) ready w.ready
       (subst (λ y. Answered (automaton.subject y.now) (memory shelf policy s) (Search (Find r f)) (memory shelf policy n) (Searched (Found finding.span) (tallied finding.counts))) e
-      (find_answered (subject automaton n) (memory shelf policy s) (memory shelf policy n) r f finding.span (tallied finding.counts) l h w.span-is w.walk))
+      (find_answered (subject automaton n) (memory shelf policy s) (memory shelf policy n) r f finding.span (tallied finding.counts) l h w.span_is w.walk))
 
   pub did_whole : (s n : Searcher M S P) (r : List Sym) (y : Bool) (ahead : AheadScan) → Ready automaton shelf policy s → n.automaton ≡ s.automaton → length r ≤ 1048576 → y ≡ whole (subject automaton n).machine r → Reached automaton shelf policy (memory shelf policy s) r 0 ahead n → Did automaton shelf policy s (Search (Whole r)) n (Searched (Told y) (tallied ahead.counts))
   did_whole s n r y ahead ready e l is w =
@@ -77,4 +77,4 @@ module _ {M S P Sym : Type 0} (automaton : AutomatonMeaning M Sym) (shelf : Shel
   did_listed s n r entries f xs ending ready e l h w =
       did_as s n (Search (Lists r f entries)) (Searched (Lists-found xs ending.rest) (tallied ending.counts)) ready w.ready
       (subst (λ y. Answered (automaton.subject y.now) (memory shelf policy s) (Search (Lists r f entries)) (memory shelf policy n) (Searched (Lists-found xs ending.rest) (tallied ending.counts))) e
-      (list_answered (subject automaton n) (memory shelf policy s) (memory shelf policy n) r f entries xs ending.rest (tallied ending.counts) l h w.written_is w.rest-is w.walk))
+      (list_answered (subject automaton n) (memory shelf policy s) (memory shelf policy n) r f entries xs ending.rest (tallied ending.counts) l h w.written_is w.rest_is w.walk))

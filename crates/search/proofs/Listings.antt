@@ -93,7 +93,7 @@ module _ {M S P Sym : Type 0} (automaton : AutomatonMeaning M Sym) (shelf : Shel
       record {
         ready = w.ready;
         so_far = subst (λ y. ListSoFar X m r entries from y less x.end (memory shelf policy n) (tallied kk)) (sym ey)
-            (list_next X m r entries from xs less at x (memory shelf policy s) (memory shelf policy n) (tallied k) (tallied finding.counts) (tallied kk) (sym w.span-is ∙ is) z w.walk
+            (list_next X m r entries from xs less at x (memory shelf policy s) (memory shelf policy n) (tallied k) (tallied finding.counts) (tallied kk) (sym w.span_is ∙ is) z w.walk
             (subst (λ y. ListSoFar X m r entries from xs y at (memory shelf policy s) (tallied k)) el (after s n m r entries from xs left at k e h)));
       }
 
@@ -109,12 +109,12 @@ module _ {M S P Sym : Type 0} (automaton : AutomatonMeaning M Sym) (shelf : Shel
   pub listed_none : (s n : Searcher M S P) (m : Memory PositionSet) (r : List Sym) (entries from : ℕ) (xs : List Span) (left at : ℕ) (k : Counts) (finding : Finding) (ending : Ending) → n.automaton ≡ s.automaton → finding.span ≡ None → None ≡ ending.rest → tallied ending.counts ≡ both (tallied k) (tallied finding.counts) → Located automaton shelf policy (memory shelf policy s) r at finding n → Listing automaton shelf policy m r entries from xs left at k s → Listed automaton shelf policy m r entries from xs ending n
   listed_none s n m r entries from xs left at k finding ending e is er z w h =
       listed n m r entries from xs None (both (tallied k) (tallied finding.counts)) ending w.ready er (sym z)
-      (list_none (subject automaton n) m r entries from xs left at (memory shelf policy s) (memory shelf policy n) (tallied k) (tallied finding.counts) _ (sym w.span-is ∙ is) refl w.walk (after s n m r entries from xs left at k e h))
+      (list_none (subject automaton n) m r entries from xs left at (memory shelf policy s) (memory shelf policy n) (tallied k) (tallied finding.counts) _ (sym w.span_is ∙ is) refl w.walk (after s n m r entries from xs left at k e h))
 
   pub listed_full : (s n : Searcher M S P) (m : Memory PositionSet) (r : List Sym) (entries from : ℕ) (xs : List Span) (left at : ℕ) (x : Span) (k : Counts) (finding : Finding) (ending : Ending) → n.automaton ≡ s.automaton → finding.span ≡ Some x → left ≡ 0 → Some at ≡ ending.rest → tallied ending.counts ≡ both (tallied k) (tallied finding.counts) → Located automaton shelf policy (memory shelf policy s) r at finding n → Listing automaton shelf policy m r entries from xs left at k s → Listed automaton shelf policy m r entries from xs ending n
   listed_full s n m r entries from xs left at x k finding ending e is el er z w h =
       listed n m r entries from xs (Some at) (both (tallied k) (tallied finding.counts)) ending w.ready er (sym z)
-      (list_full (subject automaton n) m r entries from xs at x (memory shelf policy s) (memory shelf policy n) (tallied k) (tallied finding.counts) _ (sym w.span-is ∙ is) refl w.walk
+      (list_full (subject automaton n) m r entries from xs at x (memory shelf policy s) (memory shelf policy n) (tallied k) (tallied finding.counts) _ (sym w.span_is ∙ is) refl w.walk
       (subst (λ y. ListSoFar (subject automaton n) m r entries from xs y at (memory shelf policy s) (tallied k)) el (after s n m r entries from xs left at k e h)))
 
 -- what a push does to a collector

@@ -127,7 +127,7 @@ less_out f x k h = ap (λ y. f k && not y) h ∙ and_false (f k)
 pub kept_then : {M S P Sym : Type 0} (automaton : AutomatonMeaning M Sym) (shelf : ShelfMeaning S) (a b c : Searcher M S P) → Kept automaton shelf a b → Kept automaton shelf b c → Kept automaton shelf a c
 kept_then automaton shelf a b c k l =
     record {
-      automaton_same = l.automaton-same ∙ k.automaton_same;
+      automaton_same = l.automaton_same ∙ k.automaton_same;
       counts = λ h. l.counts (k.counts h);
       flags = λ h. subst (λ y. Flagged (automaton.subject y.now).machine b → Flagged (automaton.subject y.now).machine c) k.automaton_same l.flags (k.flags h);
     }

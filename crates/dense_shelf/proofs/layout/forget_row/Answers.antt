@@ -33,10 +33,10 @@ loop-p-preserved c =
     let len : w * n ≤ length c.loop-p.bytes = cells_fit n w (length c.loop-p.bytes) hw (omega arith) in
     elim c.if-doomed.branch [
       | then-doomed v ↦
-          carry (RowInv old n w m c.args.c (p + 1)) (set c.loop-p.bytes (c.args.c * n + p) 255) _ (c.loop-p.gone + 1) _ v.bytes-is v.gone_is
+          carry (RowInv old n w m c.args.c (p + 1)) (set c.loop-p.bytes (c.args.c * n + p) 255) _ (c.loop-p.gone + 1) _ v.bytes-is v.gone-is
           (row_then old c.loop-p.bytes n w m c.args.c p c.loop-p.gone c.loop-p.invariant hc c.loop-p-test.true hw hn len (sym c.doomed.ensures ∙ v.if-doomed.true))
       | else-doomed v ↦
-          carry (RowInv old n w m c.args.c (p + 1)) c.loop-p.bytes _ c.loop-p.gone _ v.bytes-is v.gone_is
+          carry (RowInv old n w m c.args.c (p + 1)) c.loop-p.bytes _ c.loop-p.gone _ v.bytes-is v.gone-is
           (row_else old c.loop-p.bytes n w m c.args.c p c.loop-p.gone c.loop-p.invariant hc c.loop-p-test.true (sym c.doomed.ensures ∙ v.if-doomed.false))
     ]
 

@@ -37,10 +37,10 @@ loop-q-preserved c =
     let len : w * n ≤ length bs = cells_fit n w (length bs) hw (omega arith) in
     elim c.if-b-p.branch [
       | then-b-p v ↦
-          carry (OneInv old n w p c.args.c (q + 1)) (set bs (c.args.c * n + q) 255) _ (c.loop-q.gone + 1) _ (ap (set bs (c.args.c * n + q)) v.stays-is) v.gone_is
+          carry (OneInv old n w p c.args.c (q + 1)) (set bs (c.args.c * n + q) 255) _ (c.loop-q.gone + 1) _ (ap (set bs (c.args.c * n + q)) v.stays-is) v.gone-is
           (one_then old bs n w p c.args.c q c.loop-q.gone c.loop-q.invariant hc c.loop-q-test.true hp hw hn len v.if-b-p.true)
       | else-b-p v ↦
-          carry (OneInv old n w p c.args.c (q + 1)) bs _ c.loop-q.gone _ (ap (set bs (c.args.c * n + q)) v.stays-is ∙ set-get_or bs (c.args.c * n + q) 0) v.gone_is
+          carry (OneInv old n w p c.args.c (q + 1)) bs _ c.loop-q.gone _ (ap (set bs (c.args.c * n + q)) v.stays-is ∙ set-get_or bs (c.args.c * n + q) 0) v.gone-is
           (one_else old bs n w p c.args.c q c.loop-q.gone c.loop-q.invariant hc c.loop-q-test.true v.if-b-p.false)
     ]
 

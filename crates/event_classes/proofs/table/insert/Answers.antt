@@ -19,7 +19,7 @@ returns-then-codes-place c = record {
 pub copy_within-requires : goal.copy_within-requires
 copy_within-requires c =
     let e : length (take c.args.count c.args.codes.now) ≡ c.args.count = length-take-le c.args.count c.args.codes.now (omega arith) in
-    record { start-le-end = omega arith; in_bounds = omega arith; dest-in-bounds = omega arith; not-exhausted = tt }
+    record { start_le_end = omega arith; in_bounds = omega arith; dest_in_bounds = omega arith; not_exhausted = tt }
 
 pub returns : goal.returns
 returns c = record {

@@ -26,28 +26,28 @@ returns-in-Nothing c =
     let is = here c.args.place c.args.text.now c.requires Nothing c.in-Nothing.ensures in
     record { is = is; within = tt; law = lawful_at c.args.place c.args.text.now _ c.requires is }
 
-pub returns-in_err-codes_at : goal.returns-in_err-codes_at
-returns-in_err-codes_at c =
+pub returns-in_err-codes_at-in-Bang : goal.returns-in_err-codes_at-in-Bang
+returns-in_err-codes_at-in-Bang c =
     let p = err_from_is_err_and c.from_residual.result c.from_residual.ensures.1 in
-    let is = bang c.args.place c.args.text.now c.requires (Err c.in_err-codes_at.field-0.0) c.in_err-codes_at.ensures.is c.in-Bang.ensures in
+    let is = bang c.args.place c.args.text.now c.requires (Err c.in_err-codes_at-in-Bang.field-0.0) c.in_err-codes_at-in-Bang.ensures.is c.in-Bang.ensures in
     rw (p.1, p.2) (record { is = is; within = tt; law = lawful_at c.args.place c.args.text.now _ c.requires is })
 
-pub returns-in_ok-codes_at : goal.returns-in_ok-codes_at
-returns-in_ok-codes_at c =
-    let told = c.in_ok-codes_at.ensures in
+pub returns-in_ok-codes_at-in-Bang : goal.returns-in_ok-codes_at-in-Bang
+returns-in_ok-codes_at-in-Bang c =
+    let told = c.in_ok-codes_at-in-Bang.ensures in
     let width = ap (λ x. x.width) c.named.ensures in
-    let is = ap Ok c.named.ensures ∙ bang c.args.place c.args.text.now c.requires (Ok c.in_ok-codes_at.field-0) told.is c.in-Bang.ensures in
+    let is = ap Ok c.named.ensures ∙ bang c.args.place c.args.text.now c.requires (Ok c.in_ok-codes_at-in-Bang.field-0) told.is c.in-Bang.ensures in
     record { is = is; within = (omega arith, omega arith); law = lawful_at c.args.place c.args.text.now _ c.requires is }
 
-pub returns-in_err-codes_at-2 : goal.returns-in_err-codes_at-2
-returns-in_err-codes_at-2 c =
-    let p = err_from_is_err_and c.from_residual-in_err-codes_at-2.result c.from_residual-in_err-codes_at-2.ensures.1 in
-    let is = digit c.args.place c.args.text.now c.requires (Err c.in_err-codes_at-2.field-0.0) c.in_err-codes_at-2.ensures.is c.in-Digit.ensures in
+pub returns-in_err-codes_at-in-Digit : goal.returns-in_err-codes_at-in-Digit
+returns-in_err-codes_at-in-Digit c =
+    let p = err_from_is_err_and c.from_residual-in_err-codes_at-in-Digit.result c.from_residual-in_err-codes_at-in-Digit.ensures.1 in
+    let is = digit c.args.place c.args.text.now c.requires (Err c.in_err-codes_at-in-Digit.field-0.0) c.in_err-codes_at-in-Digit.ensures.is c.in-Digit.ensures in
     rw (p.1, p.2) (record { is = is; within = tt; law = lawful_at c.args.place c.args.text.now _ c.requires is })
 
-pub returns-in_ok-codes_at-2 : goal.returns-in_ok-codes_at-2
-returns-in_ok-codes_at-2 c =
-    let told = c.in_ok-codes_at-2.ensures in
+pub returns-in_ok-codes_at-in-Digit : goal.returns-in_ok-codes_at-in-Digit
+returns-in_ok-codes_at-in-Digit c =
+    let told = c.in_ok-codes_at-in-Digit.ensures in
     let width = ap (λ x. x.width) c.named-in-Digit.ensures in
-    let is = ap Ok c.named-in-Digit.ensures ∙ digit c.args.place c.args.text.now c.requires (Ok c.in_ok-codes_at-2.field-0) told.is c.in-Digit.ensures in
+    let is = ap Ok c.named-in-Digit.ensures ∙ digit c.args.place c.args.text.now c.requires (Ok c.in_ok-codes_at-in-Digit.field-0) told.is c.in-Digit.ensures in
     record { is = is; within = (omega arith, omega arith); law = lawful_at c.args.place c.args.text.now _ c.requires is }

@@ -19,7 +19,7 @@ returns c =
           ∙ closed_is d cs p.around (omega (arith, c.if-self-eq0.false)) c.requires.shallow
           ∙ ap (λ z. go (state (32 - (d - 1)) z (get_or p.around (d - 1) (framed false Empty)) (below p.around (d - 1)))) (sym w.entries);
       shallow = more;
-      within = omega (arith, c.requires.room, w.count, w.same-size);
-      same_size = w.same-size;
+      within = omega (arith, c.requires.room, w.count, w.same_size);
+      same_size = w.same_size;
       lender = w.lender;
     }

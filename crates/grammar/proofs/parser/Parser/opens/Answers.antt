@@ -17,7 +17,7 @@ returns c =
       meaning = opened_is d (held c.args.codes.now) p.frame p.around lt inside
           ∙ (λ i. go (state (32 - (d + 1)) (sym w.entries i) (sym c.fresh-self.ensures i) (below (set p.around d (sym c.grow.ensures i)) (d + 1))));
       shallow = omega (arith, lt);
-      within = omega (arith, c.requires.room, w.count, w.same-size);
-      same_size = w.same-size;
+      within = omega (arith, c.requires.room, w.count, w.same_size);
+      same_size = w.same_size;
       lender = w.lender;
     }

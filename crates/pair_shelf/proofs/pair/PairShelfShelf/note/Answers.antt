@@ -16,14 +16,12 @@ returns-then-len-ge512 c =
 pub invariant_of-self : goal.invariant_of-self
 invariant_of-self c =
     let s = c.args.self.now in
-    let l : s.len < length s.steps = omega arith in (
-      omega arith,
-      (
-        fine_push s.steps s.len (record { place = c.args.place; class = c.args.class; target = c.args.target }) l s.ok
-            (record { from = c.if-place-ge64.false; to = c.if-target-ge64.false; class = c.if-class-ge256.false; lacks = sym c.find_step.ensures ∙ c.in_default.is }),
-        tt,
-      ),
-    )
+    let l : s.len < length s.steps = omega arith in
+    record {
+      low = omega arith;
+      ok = fine_push s.steps s.len (record { place = c.args.place; class = c.args.class; target = c.args.target }) l s.ok
+            (record { from = c.if-place-ge64.false; to = c.if-target-ge64.false; class = c.if-class-ge256.false; lacks = sym c.find_step.ensures ∙ c.in_default.is });
+    }
 
 pub returns : goal.returns
 returns c =
