@@ -1,1 +1,2 @@
 pub mod Subjects
+pub mod SubjectLemmas

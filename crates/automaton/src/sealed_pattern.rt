@@ -1,5 +1,6 @@
 // A sealed pattern is an automaton, so a searcher can search with it.
 ghost use Rattle.automaton.specs.Subjects.{sealed_subject};
+ghost use Rattle.automaton.specs.SubjectLemmas.{proper as sealed_proper};
 
 use crate::automaton::Automaton;
 use alphabet::Alphabet;
@@ -11,6 +12,8 @@ impl<A: Alphabet> Automaton for Sealed<A> {
     type Symbol = A::Symbol;
 
     ghost subject = { sealed_subject A.Alphabet };
+
+    ghost proper = { λ s. sealed_proper (record { fit = A.fit; tests = A.tests; passes = A.passes; classes = A.classes; class_of = A.class_of; accepts = A.accepts }) s (record { few = (A.few s.alphabet).1; below = λ t f. A.within s.alphabet t f; agree = λ k t f. A.agree s.alphabet k t f }) };
 
     fn class_of(&self, symbol: A::Symbol) -> u16 {
         self.class_of(symbol)

@@ -23,7 +23,7 @@ invariant_of-result c =
     let e = copied_all l.own cs l.i (omega arith) l.invariant.1 in
     let few = few_kept cs (take (length cs) l.own) e (sym c.if-not-within_limits.ensures) in
     let shows = shows_at cs (take (length cs) l.own) c.of-tables.result e c.of-tables.ensures in
-    (few, (shows, tt))
+    record { few = few; right = shows }
 
 pub returns : goal.returns
 returns c =
