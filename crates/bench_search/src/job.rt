@@ -40,7 +40,7 @@ pub struct Job<'a> {
     record: &'a str,
 }
 
-fn symbols(word: &str) -> anyhow::Result<Symbols> {
+fn symbols_named(word: &str) -> anyhow::Result<Symbols> {
     match word {
         "bytes" => Ok(Symbols::Bytes),
         "events" => Ok(Symbols::Events),
@@ -71,7 +71,7 @@ impl<'a> Job<'a> {
         };
         Ok(Job {
             work: Work::of(work.as_str())?,
-            symbols: symbols(of.as_str())?,
+            symbols: symbols_named(of.as_str())?,
             shelf: shelf(on.as_str())?,
             policy: policy(by.as_str())?,
             limit: limit.as_str().parse::<usize>()?,

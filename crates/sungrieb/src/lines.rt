@@ -16,7 +16,8 @@ pub fn answer_input<A: Answers>(
     answers: &mut A,
     out: &mut Out,
 ) -> Result<(), Failure> {
-    answer_lines(rt, BufReader::new(rt.alloc(), rt.stdin())?, answers, out)
+    let input = BufReader::new(rt.alloc(), rt.stdin()).map_err(Failure::Input)?;
+    answer_lines(rt, input, answers, out)
 }
 
 pub fn answer_file<A: Answers>(
@@ -26,10 +27,13 @@ pub fn answer_file<A: Answers>(
     out: &mut Out,
 ) -> Result<(), Failure> {
     match fs::open(rt, path.as_str()) {
-        Ok(file) => match answer_lines(rt, BufReader::new(rt.alloc(), file)?, answers, out) {
-            Err(Failure::Input(error)) => Err(Failure::File(path.clone()?, error)),
-            answered => answered,
-        },
+        Ok(file) => {
+            let input = BufReader::new(rt.alloc(), file).map_err(Failure::Input)?;
+            match answer_lines(rt, input, answers, out) {
+                Err(Failure::Input(error)) => Err(Failure::File(path.clone()?, error)),
+                answered => answered,
+            }
+        }
         Err(error) => Err(Failure::File(path.clone()?, error)),
     }
 }

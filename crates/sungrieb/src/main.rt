@@ -19,6 +19,7 @@ use failure::Failure;
 use session::Session;
 use std::env;
 use std::io::{BufWriter, Write};
+use std::process::ExitCode;
 
 // The words behind the program's name.
 fn arguments(rt: &HostRuntime) -> Result<Vec<String>, Failure> {
@@ -81,11 +82,13 @@ fn obey(rt: &HostRuntime) -> Result<(), Failure> {
     }
 }
 
-// An `Err` ends the process with status 1.
-fn main(rt: HostRuntime) -> Result<(), Failure> {
-    let result = obey(&rt);
-    if let Err(failure) = &result {
-        let _ = eprintln!(rt; "sungrieb: {failure}");
+// A failure is said on standard error, and ends the process with status 1.
+fn main(rt: HostRuntime) -> ExitCode {
+    match obey(&rt) {
+        Ok(()) => ExitCode::SUCCESS,
+        Err(failure) => {
+            let _ = eprintln!(rt; "sungrieb: {failure}");
+            ExitCode::FAILURE
+        }
     }
-    result
 }
