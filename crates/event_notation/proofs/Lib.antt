@@ -1,3 +1,4 @@
+pub mod AtomLaws
 pub mod Steps
 pub mod Spanning
 pub mod Begun

@@ -35,3 +35,13 @@ pub record Law (place : ℕ) (text : List ℕ) (r : Result (Lexeme EventTest) Re
 -- Every text is read as what stands in it, and whatever stands in a text is read.
 abbrev pub Lawful : Type 0
 Lawful = (place b : ℕ) (rest : List ℕ) → Law place (b ∷ rest) (lexed place (b ∷ rest))
+
+-- the answer is an atom with the test t that takes w bytes
+abbrev pub IsAtom : Result (Lexeme EventTest) Refusal → EventTest → ℕ → Type 0
+IsAtom r t w = r ≡ Ok (record { token = Atom t; width = w })
+
+-- what is answered of the bytes bs
+pub record AtomLaw (bs : List ℕ) (r : Result (Lexeme EventTest) Refusal) : Type 0 where
+  pub only : (t : EventTest) (w : ℕ) → IsAtom r t w → (m : Meaning) × AtomAt bs m w × (t ≡ test_of m)
+  pub each : (m : Meaning) (w : ℕ) → AtomAt bs m w → IsAtom r (test_of m) w
+  pub passing : (m : Meaning) (w : ℕ) → AtomAt bs m w → (e : Event) → e.kind ≤ 255 → e.value ≤ 65535 → passes_code (test_of m) (code_of e) ≡ picks m e

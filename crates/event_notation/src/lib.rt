@@ -7,7 +7,8 @@
 
 ghost use Rattle.std.specs.Prelude.{◌≡◌, ◌+◌, ◌^◌, ◌<◌, length, drop};
 ghost use Rattle.items.specs.Lexemes.{Within};
-ghost use Rattle.event_notation.specs.Law.{Law};
+ghost use Rattle.event_notation.specs.Law.{AtomLaw, Law};
+ghost use Rattle.event_notation.specs.Trials.{Trials};
 ghost use Rattle.event_notation.specs.Reading.{start_of, every, named, lexed};
 
 pub mod laws;
@@ -18,9 +19,6 @@ use items::{Lexeme, Notation, Sign, Token};
 use refusal::{Cause, Refusal};
 use span::{Span, codes_at};
 use symbols::EventTest;
-
-// The code of the last event there can be, 255:65535.
-const LAST_CODE: u32 = 16_777_215;
 
 // What the first byte of an item makes it.
 #[derive(Clone, Copy)]
@@ -57,7 +55,7 @@ fn every() -> EventTest
 {
     EventTest {
         low: 0,
-        high: LAST_CODE,
+        high: Events::last_code(),
         inverted: false,
     }
 }
@@ -85,6 +83,16 @@ fn named(codes: Span, inverted: bool) -> Lexeme<EventTest>
 // The notation of patterns over events.
 pub struct Events;
 
+impl Events {
+    // The code of the last event there can be, 255:65535. The contract shows the notation's trials.
+    pub fn last_code() -> u32
+        ensures is { result ≡ 16777215 }
+        ensures trials { Trials }
+    {
+        16_777_215
+    }
+}
+
 impl Notation for Events {
     type Test = EventTest;
 
@@ -94,7 +102,8 @@ impl Notation for Events {
         requires { place < length text.now }
         ensures is { result ≡ lexed place (drop place text.now) }
         ensures within { Within place (length text.now) result }
-        ensures law { Law place (drop place text.now) result }
+        ensures law { AtomLaw (drop place text.now) result }
+        ensures stands { Law place (drop place text.now) result }
     {
         match start_of(text[place]) {
             Start::Space => Ok(Lexeme {

@@ -10,3 +10,4 @@ pub mod Possible
 pub mod Laws
 pub mod Alphabets
 pub mod Alone
+pub mod Trials

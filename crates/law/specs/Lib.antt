@@ -5,3 +5,4 @@ pub mod Calls
 pub mod Met
 pub mod Law
 pub mod Alphabets
+pub mod Trials

@@ -5,6 +5,7 @@
 ghost use Rattle.law.specs.Subject.{Subject, Proper};
 ghost use Rattle.law.specs.Law.{Law};
 ghost use Rattle.law.specs.Alphabets.{FromAlphabet, FromMasks};
+ghost use Rattle.law.specs.Trials.{Trials};
 
 // Every series keeps the law, whatever the symbols and however sets of positions are held.
 pub fn law_stands<S, Q>(_symbol: &S, _set: &Q) -> u8
@@ -23,6 +24,13 @@ pub fn alphabets_stand<S, Q>(_symbol: &S, _set: &Q) -> u8
 // Sets of positions may be numbers.
 pub fn masks_stand<S>(_symbol: &S) -> u8
     ensures { FromMasks S }
+{
+    0
+}
+
+// The definitions at small patterns.
+pub fn trials_stand() -> u8
+    ensures { Trials }
 {
     0
 }

@@ -7,4 +7,5 @@ pub mod Seal
 pub mod Spans
 pub mod Steps
 pub mod Theorems
+pub mod Trials
 pub mod Words

@@ -5,6 +5,7 @@
 ghost use Rattle.std.specs.Prelude.{ℕ, Bool};
 ghost use Rattle.theory.specs.Machine.{Machine};
 ghost use Rattle.theory.specs.Theorems.{Telling, Answering, Searches, WithoutWords, Reading, Masking, Sealing, Alike};
+ghost use Rattle.theory.specs.Trials.{Trials};
 
 // The symbols `start` to `end - 1` of a record.
 #[derive(Clone, Copy)]
@@ -72,6 +73,12 @@ pub fn sealing_stands() -> u8
 // Symbols that every test treats alike may share a class.
 pub fn classes_stand<S, Q>(_symbol: &S, _set: &Q) -> u8
     ensures { Alike S Q }
+{
+    0
+}
+
+pub fn trials_stand() -> u8
+    ensures { Trials }
 {
     0
 }
