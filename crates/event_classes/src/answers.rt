@@ -3,10 +3,7 @@ ghost use Rattle.std.specs.Prelude.{◌≡◌, ◌<◌, ◌&&◌, length, take, 
 ghost use Rattle.symbols.specs.Tests.{code_of, passes_code};
 ghost use Rattle.event_classes.specs.Cuts.{event_passes, event_classes, event_class, event_accepts, Cut};
 ghost use Rattle.event_classes.specs.Own.{event_tests};
-ghost use Rattle.std.proofs.Common.{arith};
-ghost use Rattle.std.proofs.lemmas.List.{length-take};
-ghost use Rattle.event_classes.specs.Eventwise.{events_few, events_within, events_agree, events_untested, events_unclassed};
-ghost use Rattle.std.proofs.lemmas.Bool.{and_parts, ltb-true};
+ghost use Rattle.event_classes.specs.Eventwise.{events_few, few_taken, code_fits, events_within, events_agree, events_untested, events_unclassed};
 ghost use Rattle.alphabet.proofs.Asking.{asked_none};
 
 use crate::{EventCuts, table};
@@ -50,15 +47,11 @@ impl Alphabet for EventCuts {
 
     ghost accepts = { λ a c k. event_accepts (event_tests a) c k };
 
-    ghost few = { λ a. events_few (event_tests a) (omega (arith, length-take a.used a.tests, a.few)) };
+    ghost few = { λ a. events_few (event_tests a) (few_taken a.used a.tests a.few) };
 
     ghost within = { λ a e h. events_within (event_tests a) (code_of e) };
 
-    ghost agree = { λ a k e h.
-        let w = and_parts (nat_lt e.kind 256) (nat_lt e.value 65536) h in
-        let kind = ltb-true e.kind 256 w.0 in
-        let value = ltb-true e.value 65536 w.1 in
-        events_agree (event_tests a) k (code_of e) (omega arith) };
+    ghost agree = { λ a k e h. events_agree (event_tests a) k (code_of e) (code_fits e h) };
 
     ghost nameless = { λ a k e h. asked_none (λ t. passes_code t (code_of e)) (event_tests a) k h };
 

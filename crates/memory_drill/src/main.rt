@@ -8,13 +8,12 @@ mod policy_model;
 mod shelf_drill;
 mod shelf_model;
 
-use dense_shelf::DenseShelf;
-use pair_shelf::PairShelf;
 use policies::{Clock, FlushAll};
 use policy_drill::drill_policy;
 use policy_model::{PolicyModel, Rule};
 use shelf_drill::drill_shelf;
 use shelf_model::ShelfModel;
+use shelves::{DenseShelf, PairShelf};
 
 // A dense shelf on so many bytes, which are anything at first.
 fn dense(rt: &HostRuntime, len: usize, places: u8, seed: u64) -> anyhow::Result<()> {

@@ -1,5 +1,5 @@
 -- The number and the layer of each cause of a refusal.
-use Rattle.std.specs.Prelude.{◌≡◌, ℕ}
+use Rattle.std.specs.Prelude.{ℕ}
 use Rattle.refusal.specs.declared.Cause.{Cause}
 use Rattle.refusal.specs.declared.Cause.TheVariants.{TextTooLong, NoItem, BadEscape, UnclosedBracket, ReversedRange, BadNumber, TooManyAtoms, TooDeep, MissingOperand, UnmatchedClosing, UnclosedGroup, RecordTooLong, FromPastEnd, LimitTooLarge}
 

@@ -1,5 +1,5 @@
 -- A number from its lowest digit on: two numbers with the same digits are equal, and what counting ones and trailing zeros says of the digits.
-use Rattle.std.proofs.Common.{◌≡◌, ℕ, zero, suc, ◌+◌, ◌-◌, ◌*◌, ◌/◌, ◌%◌, ◌^◌, ◌<◌, ◌≤◌, Bool, true, false, cond, eqb, ◌⊎◌, sym, refl, ap, ◌∙◌, subst, ap₂, inl, inr, ⊎_elim, div-one, add-one, one-add, arith}
+use Rattle.std.proofs.Common.{◌≡◌, ℕ, zero, suc, ◌+◌, ◌/◌, ◌%◌, ◌^◌, ◌<◌, Bool, cond, eqb, ◌⊎◌, sym, refl, ap, ◌∙◌, subst, ap₂, ⊎_elim, div-one, add-one, one-add, arith}
 use lib.Count.{ones, ones_step, count_trailing_zeros, under}
 use Rattle.std.proofs.lemmas.Nat.{shr-shr, shr_below, div-add-mod'}
 use Rattle.sets.specs.Members.{tally}

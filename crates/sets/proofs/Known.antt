@@ -1,5 +1,5 @@
 -- What a user of the sets may want to know of them without looking into the bits.
-use Rattle.std.proofs.Common.{◌≡◌, ℕ, ◌<◌, ◌≤◌, true, false, eqb, Decides, sym, refl, ap, ◌∙◌}
+use Rattle.std.proofs.Common.{◌≡◌, ℕ, ◌<◌, ◌≤◌, true, false, Decides, ap}
 use Rattle.std.proofs.lemmas.Bool.{eqb-true, eq-eqb}
 use Rattle.sets.specs.Places.{member}
 use Rattle.sets.specs.Positions.{width, holds, alike}

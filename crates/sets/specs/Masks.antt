@@ -1,5 +1,5 @@
 -- A number read as a set: its binary digits below the width w say which numbers are members.
-use Rattle.std.specs.Prelude.{ℕ, ◌/◌, ◌%◌, ◌^◌, Bool, ◌&&◌, ◌==◌, nat_lt}
+use Rattle.std.specs.Prelude.{ℕ, ◌/◌, ◌%◌, ◌^◌, ◌&&◌, ◌==◌, nat_lt}
 use Rattle.sets.specs.Members.{Members}
 
 abbrev pub bit : ℕ → ℕ → ℕ

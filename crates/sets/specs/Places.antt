@@ -1,6 +1,6 @@
 -- The members of a set of places, which are numbered 0 to 63.
 use Rattle.std.specs.Prelude.{◌≡◌, ℕ, ◌<◌, true, false}
-use Rattle.sets.specs.Members.{Members, below}
+use Rattle.sets.specs.Members.{Members}
 use Rattle.sets.specs.Masks.{mask}
 use Rattle.sets.specs.declared.places.PlaceSet.{PlaceSet}
 

@@ -121,7 +121,7 @@ impl<'p, M: Automaton, S: Shelf, P: Policy> Searcher<'p, M, S, P> {
     }
 
     // Is there a symbol to read, and a word that could go on?
-    fn goes_on_lem(&self, row: &[M::Symbol], scan: AheadScan) -> bool
+    fn goes_on(&self, row: &[M::Symbol], scan: AheadScan) -> bool
         ensures { result ≡ (nat_lt scan.at (length row.now) && not ((subject M.Automaton self.now).machine.empty scan.cursor.set)) }
     {
         scan.at < row.len() && !self.automaton.is_empty(scan.cursor.set)
@@ -144,7 +144,7 @@ impl<'p, M: Automaton, S: Shelf, P: Policy> Searcher<'p, M, S, P> {
             end: start,
             counts: Counts::none(),
         };
-        while self.goes_on_lem(row, scan) {
+        while self.goes_on(row, scan) {
             scan = self.read_ahead(row, scan);
             scan = self.ride_ahead(row, scan);
         }
