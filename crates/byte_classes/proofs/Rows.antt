@@ -1,5 +1,5 @@
 -- Bytes have one row of answers exactly when they are alike, and the table is filled byte by byte.
-use Rattle.std.proofs.Common.{◌≡◌, ℕ, ◌+◌, ◌*◌, ◌^◌, ◌<◌, ◌≤◌, Bool, true, false, cond, ◌⊎◌, List, [], ◌∷◌, length, get_or, take, set, fold, sym, refl, ap, ◌∙◌, ⊎_elim, add-one, arith, length-set}
+use Rattle.std.proofs.Common.{◌≡◌, ℕ, ◌+◌, ◌*◌, ◌^◌, ◌<◌, ◌≤◌, Bool, true, false, cond, List, [], ◌∷◌, length, get_or, take, set, fold, sym, refl, ap, ◌∙◌, ⊎_elim, add-one, arith, length-set}
 use mathlib.Core.Bool.{beq}
 use mir.Val.{bool_byte}
 use Rattle.std.proofs.lemmas.Bool.{and_parts, and_from, cases_Bool, eq-eqb, ne_eqb}
@@ -9,7 +9,7 @@ use Rattle.sets.specs.Positions.{holds}
 use Rattle.sets.specs.declared.positions.PositionSet.{PositionSet}
 use Rattle.symbols.specs.declared.ByteTest.{ByteTest}
 use Rattle.symbols.specs.Tests.{passes_byte}
-use Rattle.byte_classes.specs.Numbering.{first, how_many, smallest, leads, member}
+use Rattle.byte_classes.specs.Numbering.{how_many, smallest, leads, member}
 use Rattle.byte_classes.specs.Classes.{alike, byte_class, byte_classes}
 use Rattle.byte_classes.specs.Tables.{row, passed_byte, FirstLike}
 use Rattle.alphabet.proofs.Filling.{below_kept, below_set}

@@ -1,5 +1,5 @@
 -- The first number with a property, and how many have it.
-use Rattle.std.specs.Prelude.{◌≡◌, ℕ, zero, suc, ◌+◌, ◌<◌, ◌≤◌, Bool, true, false, ◌⊎◌, refl}
+use Rattle.std.specs.Prelude.{◌≡◌, ℕ, zero, suc, ◌+◌, ◌<◌, ◌≤◌, Bool, true, false, refl}
 use Rattle.std.proofs.Common.{ap, ◌∙◌, ⊎_elim, arith, add-zero}
 use Rattle.std.proofs.lemmas.Bool.{cases_Bool, cases_order, cases_lt, cases_eq, cond-true, cond-false, both_ways}
 use Rattle.byte_classes.specs.Numbering.{first, how_many}

@@ -1,5 +1,5 @@
 -- Classes of numbers under any equivalence, numbered by their smallest members.
-use Rattle.std.specs.Prelude.{◌≡◌, ℕ, ◌<◌, ◌≤◌, Bool, true, ◌⊎◌, nat_eq, refl}
+use Rattle.std.specs.Prelude.{◌≡◌, ℕ, ◌<◌, ◌≤◌, Bool, true, nat_eq, refl}
 use Rattle.std.proofs.Common.{sym, ap, ◌∙◌, ⊎_elim, arith}
 use Rattle.std.proofs.lemmas.Bool.{cases_order, cases_lt, both_ways, eq-eqb, ne_eqb, eqb-true}
 use Rattle.byte_classes.specs.Numbering.{how_many, smallest, leads, class_of, classes, member}
