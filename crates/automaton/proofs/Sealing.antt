@@ -1,28 +1,15 @@
 -- The sets of a sealed pattern are those of the step rule.
-use Rattle.std.proofs.Common.{◌≡◌, ℕ, ◌^◌, ◌<◌, ◌≤◌, Bool, true, false, ◌&&◌, ◌||◌, T, eqb, ltb, ◌↔◌, MatchBool, Option, sym, refl, ap, ◌∙◌, subst, arith, lit<, pow_pos}
-use Rattle.std.proofs.lemmas.Bool.{lt-ltb, eq-eqb, ne_eqb, both_ways}
-use Rattle.pattern.specs.Tree.{Tree}
-use Rattle.alphabet.specs.declared.Alphabet.{Ghosts as AlphabetMeaning}
-use Rattle.sealed.specs.declared.sealing.Sealed.{Sealed}
-use Rattle.sealed.specs.Plans.{codes_of, tree_of, positions_of}
+use Rattle.std.proofs.Common.{◌≡◌, ℕ, ◌^◌, ◌<◌, Bool, true, false, ◌&&◌, ◌||◌, eqb, MatchBool, sym, refl, ap, ◌∙◌, arith, lit<, pow_pos}
+use Rattle.std.proofs.lemmas.Bool.{eq-eqb, ne_eqb, both_ways}
 use Rattle.sets.specs.Masks.{mask}
-use Rattle.sets.specs.Positions.{width, holds, alike}
+use Rattle.sets.specs.Positions.{width, holds}
 use Rattle.sets.specs.declared.positions.PositionSet.{PositionSet}
 use Rattle.sets.specs.Members.{none, plus}
 use Rattle.sets.proofs.Sets.{mask_in, one_mask, zero_mask, plus_mask}
-use Rattle.sets.proofs.Known.{alike_is}
-use Rattle.theory.specs.declared.Direction.{Direction}
-use Rattle.theory.specs.declared.Direction.TheVariants.{Ahead, Back}
-use Rattle.theory.specs.Positions.{Positions, positions, FromOne, atoms}
-use Rattle.theory.specs.Machine.{Machine, Lawful, rule}
+use Rattle.theory.specs.Positions.{Positions}
 use Rattle.theory.specs.Masks.{masks, those, some, ahead_set, back_set, common}
 use Rattle.theory.specs.Masks as numbers
-use Rattle.theory.proofs.Bit.{same_members}
-use Rattle.theory.proofs.Masks.{masks_lawful, within, number_those, some_same}
-use Rattle.theory.proofs.Widths.{alike as alike-step}
-use Rattle.theory.proofs.Answers.{numbered}
-use Rattle.law.specs.Subject.{Subject, Proper}
-use Rattle.automaton.specs.Subjects.{on_sets, sealed_subject}
+use Rattle.theory.proofs.Masks.{number_those, some_same}
 use Rattle.automaton.specs.SubjectLemmas.{set_of}
 
 -- below the width a set's members are its digits

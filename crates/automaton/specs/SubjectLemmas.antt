@@ -1,27 +1,20 @@
 -- A sealed pattern's subject is proper: what a searcher asks of a pattern, from what an alphabet promises.
-use Rattle.std.proofs.Common.{◌≡◌, ℕ, ◌^◌, ◌<◌, ◌≤◌, Bool, true, false, ◌&&◌, ◌||◌, T, eqb, ltb, ◌↔◌, MatchBool, Option, sym, refl, ap, ◌∙◌, subst, arith, lit<, pow_pos}
-use Rattle.std.proofs.lemmas.Bool.{lt-ltb, eq-eqb, ne_eqb, both_ways}
-use Rattle.pattern.specs.Tree.{Tree}
+use Rattle.std.proofs.Common.{◌≡◌, ℕ, ◌<◌, ◌≤◌, Bool, true, sym, ap, ◌∙◌, arith}
 use Rattle.alphabet.specs.declared.Alphabet.{Ghosts as AlphabetMeaning}
 use Rattle.sealed.specs.declared.sealing.Sealed.{Sealed}
 use Rattle.sealed.specs.Plans.{codes_of, tree_of, positions_of}
-use Rattle.sets.specs.Masks.{mask}
-use Rattle.sets.specs.Positions.{width, holds, alike}
 use Rattle.sets.specs.declared.positions.PositionSet.{PositionSet}
-use Rattle.sets.specs.Members.{none, plus}
-use Rattle.sets.proofs.Sets.{mask_in, one_mask, zero_mask, plus_mask}
 use Rattle.sets.proofs.Known.{alike_is}
 use Rattle.theory.specs.declared.Direction.{Direction}
 use Rattle.theory.specs.declared.Direction.TheVariants.{Ahead, Back}
-use Rattle.theory.specs.Positions.{Positions, positions, FromOne, atoms}
+use Rattle.theory.specs.Positions.{Positions, FromOne, atoms}
 use Rattle.theory.specs.Machine.{Machine, Lawful, rule}
-use Rattle.theory.specs.Masks.{masks, those, some, ahead_set, back_set, common}
-use Rattle.theory.specs.Masks as numbers
+use Rattle.theory.specs.Masks.{masks}
 use Rattle.theory.proofs.Bit.{same_members}
-use Rattle.theory.proofs.Masks.{masks_lawful, within, number_those, some_same}
+use Rattle.theory.proofs.Masks.{masks_lawful, within}
 use Rattle.theory.proofs.Widths.{alike as alike-step}
 use Rattle.theory.proofs.Answers.{numbered}
-use Rattle.law.specs.Subject.{Subject, Proper}
+use Rattle.law.specs.Subject.{Proper}
 use Rattle.automaton.specs.Subjects.{on_sets, sealed_subject}
 
 pub set_of : (a b : ℕ) → a ≡ b → ◌≡◌ {A = PositionSet} (record { bits = a }) (record { bits = b })

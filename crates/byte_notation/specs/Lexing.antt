@@ -1,5 +1,5 @@
 -- What the byte notation reads at a place: a sign, an atom with its test, or a refusal.
-use Rattle.std.specs.Prelude.{ℕ, ◌+◌, cond, List, [], ◌∷◌, Some, None, Ok, Err, codes, Option, Result, ◌==◌}
+use Rattle.std.specs.Prelude.{ℕ, cond, List, [], ◌∷◌, Some, None, Ok, Err, codes, Option, Result, ◌==◌}
 use Rattle.refusal.specs.declared.Cause.{Cause}
 use Rattle.refusal.specs.declared.Cause.TheVariants.{NoItem, BadEscape}
 use Rattle.refusal.specs.declared.Refusal.{Refusal}

@@ -1,8 +1,8 @@
 -- The dense rows keep a shelf's bounds. The proof stands here and not among the proofs, because the ghost member `bounds` cites it.
-use Rattle.std.specs.Prelude.{◌≡◌, ℕ, zero, suc, ◌+◌, ◌*◌, ◌/◌, ◌%◌, ◌<◌, ◌≤◌, Bool, true, false, cond, ◌&&◌, List, length, Some, None, Option, ◌≢◌, slice_index, refl}
+use Rattle.std.specs.Prelude.{◌≡◌, ℕ, ◌+◌, ◌*◌, ◌<◌, ◌≤◌, cond, List, length, Some, None, ◌≢◌, slice_index}
 use Rattle.std.proofs.Common.{sym, ap, ◌∙◌, ⊎_elim, arith}
 use Rattle.std.proofs.lemmas.Bool.{cases_lt, lt-ltb, le-ltb}
-use Rattle.memory.specs.Steps.{Map, size, Bounds, Within}
+use Rattle.memory.specs.Steps.{Bounds, Within}
 use Rattle.memory.proofs.Sizes.{size_le}
 use Rattle.dense_shelf.specs.Rows.{dense, rows, target}
 

@@ -1,5 +1,5 @@
 -- What the law says of atoms alone.
-use Rattle.std.proofs.Common.{◌≡◌, ℕ, List, Ok, Result, sym, refl, subst}
+use Rattle.std.proofs.Common.{ℕ, List, Ok, Result, sym, refl, subst}
 use Rattle.refusal.specs.declared.Refusal.{Refusal}
 use Rattle.items.specs.declared.Lexeme.{Lexeme}
 use Rattle.items.specs.declared.Token.TheVariants.{Atom}

@@ -1,9 +1,7 @@
 -- What stands at a place of a text, by the beginning that was told there.
-use Rattle.std.proofs.Common.{◌≡◌, ℕ, ◌+◌, ◌<◌, true, false, List, length, get_or, drop, Ok, Err, Result, sym, refl, ap, ◌∙◌}
+use Rattle.std.proofs.Common.{◌≡◌, ℕ, ◌+◌, ◌<◌, true, false, List, length, get_or, drop, Ok, Result, sym, ap, ◌∙◌}
 use Rattle.std.proofs.lemmas.List.{drop-drop, drop_more}
 use Rattle.refusal.specs.declared.Refusal.{Refusal}
-use Rattle.items.specs.declared.Lexeme.{Lexeme}
-use Rattle.symbols.specs.declared.EventTest.{EventTest}
 use Rattle.event_notation.specs.declared.Start.{Start}
 use Rattle.event_notation.specs.declared.Start.TheVariants.{Bang, Digit}
 use Rattle.event_notation.specs.declared.span.Span.{Span}

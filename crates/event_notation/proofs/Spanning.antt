@@ -1,11 +1,10 @@
 -- The definitions of ranges, values and codes, followed from place to place in a text.
-use Rattle.std.proofs.Common.{◌≡◌, ℕ, ◌+◌, ◌<◌, ◌≤◌, true, false, List, length, drop, Ok, Err, Result, sym, ap, ◌∙◌, arith}
+use Rattle.std.proofs.Common.{◌≡◌, ℕ, ◌+◌, ◌<◌, ◌≤◌, true, false, List, drop, Ok, Err, Result, sym, ap, ◌∙◌}
 use Rattle.std.proofs.lemmas.List.{drop-drop}
 use Rattle.std.proofs.lemmas.Bool.{cond-true, cond-false, le-leb, lt-leb}
 use Rattle.refusal.specs.declared.Cause.TheVariants.{ReversedRange}
 use Rattle.refusal.specs.declared.Refusal.{Refusal}
 use Rattle.event_notation.specs.declared.number.Number.{Number}
-use Rattle.event_notation.specs.declared.span.Span.{Span}
 use Rattle.event_notation.specs.Numbers.{number_at}
 use Rattle.event_notation.specs.Spans.{begins, after, between, range_from, range, colon, values, coded, codes}
 

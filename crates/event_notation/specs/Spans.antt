@@ -1,5 +1,5 @@
 -- A kind with its values, as the lowest and the highest code that they name.
-use Rattle.std.specs.Prelude.{ℕ, ◌+◌, ◌*◌, ◌<◌, ◌≤◌, Bool, true, false, cond, List, [], ◌∷◌, drop, Ok, Err, Result, ◌==◌, nat_le}
+use Rattle.std.specs.Prelude.{ℕ, ◌+◌, ◌*◌, ◌<◌, ◌≤◌, Bool, false, cond, List, [], ◌∷◌, drop, Ok, Err, Result, ◌==◌, nat_le}
 use Rattle.refusal.specs.declared.Cause.TheVariants.{ReversedRange}
 use Rattle.refusal.specs.declared.Refusal.{Refusal}
 use Rattle.event_notation.specs.declared.number.Number.{Number}

@@ -12,7 +12,7 @@ use Rattle.grammar.specs.Grammar.Pattern.{chain, choice}
 use Rattle.grammar.specs.Grammar.Chain.{repeat, join}
 use Rattle.grammar.specs.Grammar.Repeat.{unit, star, plus, maybe}
 use Rattle.grammar.specs.Grammar.Single.{atom, group}
-use Rattle.grammar.specs.Parse.{Outcome, State, Step, framed, state, more, grown, joins, ends, operand, step, after, run}
+use Rattle.grammar.specs.Parse.{Outcome, State, Step, framed, state, more, grown, joins, ends, operand, after, run}
 use Rattle.grammar.specs.Parse.Outcome.{accepted}
 use Rattle.grammar.specs.Parse.Step.{go}
 

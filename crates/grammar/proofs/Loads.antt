@@ -1,5 +1,5 @@
 -- The codes that would close it all grow by at most two at a step.
-use Rattle.std.proofs.Common.{◌≡◌, ℕ, zero, suc, ◌+◌, ◌-◌, ◌≤◌, true, List, [], ◌∷◌, ◌++◌, length, refl, subst, arith, length-append}
+use Rattle.std.proofs.Common.{◌≡◌, ℕ, zero, suc, ◌+◌, ◌≤◌, true, List, [], ◌∷◌, ◌++◌, length, refl, subst, arith, length-append}
 use Rattle.items.specs.declared.Item.{Item}
 use Rattle.items.specs.declared.Sign.{Sign}
 use Rattle.pattern.specs.declared.Code.{Code}

@@ -8,7 +8,7 @@ use Rattle.refusal.specs.declared.Cause.{Cause}
 use Rattle.grammar.specs.declared.frame.Repeats.{Repeats}
 use Rattle.grammar.specs.declared.frame.Repeats.TheVariants.{Empty, One, Many}
 use Rattle.grammar.specs.declared.frame.Frame.{Frame}
-use Rattle.grammar.specs.Grammar.{at, sign, Pattern}
+use Rattle.grammar.specs.Grammar.{sign, Pattern}
 use Rattle.grammar.specs.Parse.{State, Step, framed, state, grown, joins, ends, operand, opened, step, last, after, run, start, parse}
 use Rattle.grammar.specs.Parse.Outcome.{accepted, refused}
 use Rattle.grammar.specs.Parse.Step.{go, wrong}

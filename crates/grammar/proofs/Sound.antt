@@ -13,7 +13,7 @@ use Rattle.grammar.specs.Grammar.Pattern.{chain, choice}
 use Rattle.grammar.specs.Grammar.Chain.{repeat, join}
 use Rattle.grammar.specs.Grammar.Repeat.{unit, star, plus, maybe}
 use Rattle.grammar.specs.Grammar.Single.{atom, group}
-use Rattle.grammar.specs.Parse.{Outcome, State, Step, framed, state, more, grown, joins, choices, ends, operand, opened, closed, done, step, last, after, run}
+use Rattle.grammar.specs.Parse.{Outcome, State, Step, framed, state, more, grown, joins, choices, ends, operand, opened, closed, done, step, after, run}
 use Rattle.grammar.specs.Parse.Outcome.{accepted, refused}
 use Rattle.grammar.specs.Parse.Step.{go, wrong}
 use Rattle.grammar.proofs.Complete.{Filled, wants}

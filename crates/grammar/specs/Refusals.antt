@@ -1,5 +1,5 @@
 -- Refusals in the grammar's words: the first item with which no pattern begins, or the end of the text.
-use Rattle.std.specs.Prelude.{◌≡◌, ℕ, zero, suc, List, [], ◌∷◌, ◌++◌, ◌≢◌}
+use Rattle.std.specs.Prelude.{ℕ, zero, suc, List, [], ◌∷◌, ◌++◌, ◌≢◌}
 use Rattle.items.specs.declared.Item.{Item}
 use Rattle.items.specs.declared.Sign.{Sign}
 use Rattle.items.specs.declared.Placed.{Placed}

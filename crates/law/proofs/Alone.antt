@@ -1,20 +1,19 @@
 -- At an allowance of one the policy has no choice: the reads alone decide how they are counted.
-use Rattle.std.proofs.Common.{◌≡◌, ℕ, ◌+◌, ◌<◌, ◌≤◌, min, Bool, true, false, cond, ltb, ◌⊎◌, List, [], ◌∷◌, length, Some, None, Option, sym, refl, ap, ◌∙◌, subst, inl, inr, ⊎_elim, arith}
+use Rattle.std.proofs.Common.{◌≡◌, ℕ, ◌+◌, ◌<◌, ◌≤◌, Bool, true, false, cond, ltb, ◌⊎◌, List, [], ◌∷◌, length, Some, None, Option, sym, refl, ap, ◌∙◌, subst, inl, inr, ⊎_elim, arith}
 use mathlib.Core.Path.{fun_ext}
 use Rattle.std.proofs.lemmas.Bool.{cases_Bool, both_ways, lt-ltb, le-ltb}
-use Rattle.sets.specs.Members.{Members}
-use Rattle.memory.specs.Steps.{Map, nothing, noted, size}
+use Rattle.memory.specs.Steps.{Map, nothing, size}
 use Rattle.memory.proofs.Sizes.{size_nothing}
 use Rattle.theory.specs.Reads.{Read, State, source, target, Step, step}
 use Rattle.law.specs.Subject.{Subject, Proper}
-use Rattle.law.specs.Memory.{Memory, taken, held_places, sets_live, allowance, steps_known, Absent, with_set, without_places, Chosen, Seated, already, room, made, nowhere, Noted, spare, full, with_steps, Sound}
+use Rattle.law.specs.Memory.{Memory, taken, held_places, sets_live, allowance, without_places, Seated, already, room, made, nowhere, Noted, spare, full, with_steps, Sound}
 use Rattle.law.specs.Reading.{Counts, zeros, both, OneRead, known, built, plain, Walk}
 use Rattle.law.specs.Met.{same_state, same_step, among}
 use Rattle.law.proofs.Tally.{tally_none, tally_one}
 use Rattle.law.proofs.Maps.{some_not, some_same}
-use Rattle.law.proofs.Seats.{not_taken, taken_some, Seating, seating, sound_drop, room_made, unseated}
+use Rattle.law.proofs.Seats.{not_taken, taken_some, seating, sound_drop, room_made, unseated}
 use Rattle.law.proofs.Readings.{unknown_stays, cases_step, reading}
-use Rattle.law.proofs.Once.{state_same, same_state_self, among_cases}
+use Rattle.law.proofs.Once.{state_same, same_state_self}
 use Rattle.law.proofs.Exact.{at, Carry, carry_put, carry_noted, unseen, unkeyed}
 
 -- how a read is counted: whether the step is known, whether it leads to the set itself, whether the shelf has room;

@@ -1,12 +1,11 @@
 -- The alphabet's law makes symbols of one class lead alike.
-use Rattle.std.proofs.Common.{◌≡◌, ℕ, sym, ap, ◌∙◌}
+use Rattle.std.proofs.Common.{ℕ, sym, ap, ◌∙◌}
 use Rattle.std.proofs.lemmas.Bool.{eqb-true, eq-eqb}
 use Rattle.theory.specs.Positions.{positions}
 use Rattle.theory.proofs.Bit.{same_members}
 use Rattle.theory.proofs.Masks.{masks_lawful, within}
 use Rattle.theory.proofs.Widths.{alike}
-use Rattle.law.specs.Subject.{Subject, Proper}
-use Rattle.law.specs.Alphabets.{Classes, FromAlphabet, FromMasks, masked}
+use Rattle.law.specs.Alphabets.{FromAlphabet, FromMasks, masked}
 
 pub from_alphabet : (Sym States : Type 0) → FromAlphabet Sym States
 from_alphabet Sym States M accepts classes numbered lawful extensional one =

@@ -1,5 +1,5 @@
 -- Each call keeps a memory sound, balances its steps, and answers as defined; and so does a series.
-use Rattle.std.proofs.Common.{◌≡◌, ℕ, ◌+◌, ◌-◌, ◌*◌, ◌<◌, ◌≤◌, min, Bool, true, false, cond, ltb, ◌⊎◌, List, [], ◌∷◌, ◌++◌, map, length, Some, None, Option, sym, refl, ap, ◌∙◌, subst, inl, inr, ⊎_elim, arith}
+use Rattle.std.proofs.Common.{◌≡◌, ℕ, ◌+◌, ◌-◌, ◌*◌, ◌<◌, ◌≤◌, true, false, cond, ltb, List, [], ◌∷◌, ◌++◌, map, length, Some, None, sym, refl, ap, ◌∙◌, subst, ⊎_elim, arith}
 use Rattle.std.proofs.lemmas.Bool.{cases_Bool, ltb-false, both_ways}
 use Rattle.refusal.specs.declared.Cause.TheVariants.{LimitTooLarge}
 use Rattle.refusal.specs.declared.Refusal.{Refusal}
@@ -11,13 +11,13 @@ use Rattle.theory.proofs.Lists.{list_lists}
 use Rattle.theory.proofs.Whole.{whole_word}
 use Rattle.theory.proofs.Reading.{reading}
 use Rattle.law.specs.Subject.{Subject, Word, Proper}
-use Rattle.law.specs.Memory.{Memory, taken, sets_live, allowance, steps_known, emptied, with_limit, Joins, Sound}
+use Rattle.law.specs.Memory.{Memory, sets_live, allowance, steps_known, emptied, with_limit, Joins, Sound}
 use Rattle.law.specs.Reading.{Counts, Walk}
-use Rattle.law.specs.Calls.{Query, Find, Lists, Whole, Request, Search, Limit, Clear, Findings, Answer, Searched, Dropped, Refused, refusal, refused_if, findings, reads, Limited, within, beyond, Answered, refused, searched, limited, cleared, Series}
-use Rattle.law.specs.Law.{Each, counts, searches, replies, Outcome, finds, outcome, or_refused, define, Says, ByWords, next_limit, last_limit, built, dropped, Summed, Short, Unplain, ClearLast, RefusalsIdle}
+use Rattle.law.specs.Calls.{Query, Find, Lists, Whole, Request, Search, Limit, Clear, Answer, Searched, Dropped, Refused, refusal, refused_if, findings, reads, Limited, within, beyond, Answered, refused, searched, limited, cleared, Series}
+use Rattle.law.specs.Law.{Each, counts, searches, replies, finds, outcome, or_refused, define, Says, ByWords, next_limit, last_limit, built, dropped, Summed, Short, Unplain, ClearLast, RefusalsIdle}
 use Rattle.law.proofs.Tally.{tally_zero}
 use Rattle.law.proofs.Maps.{some_not}
-use Rattle.law.proofs.Walks.{Walking, walking}
+use Rattle.law.proofs.Walks.{walking}
 
 cons_same : {A : Type 0} (x y : A) (xs ys : List A) → x ≡ y → xs ≡ ys → ◌≡◌ {A = List A} (x ∷ xs) (y ∷ ys)
 cons_same x y xs ys e f = cc

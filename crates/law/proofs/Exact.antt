@@ -1,7 +1,6 @@
 -- With room for all that is met, nothing is dropped, and the shelf has exactly the steps met.
-use Rattle.std.proofs.Common.{◌≡◌, ℕ, ◌+◌, ◌<◌, ◌≤◌, min, Bool, true, false, cond, ◌⊎◌, List, [], ◌∷◌, ◌++◌, map, length, Some, None, Option, sym, refl, ap, ◌∙◌, subst, inl, inr, ⊎_elim, arith}
+use Rattle.std.proofs.Common.{◌≡◌, ℕ, ◌+◌, ◌<◌, ◌≤◌, true, false, List, [], ◌∷◌, ◌++◌, length, Some, None, Option, sym, refl, ap, ◌∙◌, subst, ⊎_elim, arith}
 use Rattle.std.proofs.lemmas.Bool.{cases_Bool, both_ways}
-use Rattle.sets.specs.Places.{LowestFree}
 use Rattle.memory.specs.Steps.{noted}
 use Rattle.memory.proofs.Sizes.{size_noted, noted_other, size_nothing}
 use Rattle.theory.specs.Reads.{Read, State, source, target, Step, step}
@@ -11,8 +10,8 @@ use Rattle.law.specs.Reading.{Counts, OneRead, known, built, plain, Walk}
 use Rattle.law.specs.Met.{same_state, same_step, among, new, sets_met, steps_met}
 use Rattle.law.proofs.Tally.{tally_zero}
 use Rattle.law.proofs.Maps.{some_not, some_same, Other, noted_cases, noted_here}
-use Rattle.law.proofs.Seats.{not_taken, Seating, seating, put_here, put_stays, put_cases, put_count, lowest_low}
-use Rattle.law.proofs.Readings.{unknown_stays, Reading, reading}
+use Rattle.law.proofs.Seats.{not_taken, seating, put_here, put_stays, put_cases, put_count}
+use Rattle.law.proofs.Readings.{unknown_stays, reading}
 use Rattle.law.proofs.Once.{state_of_lem, state_same, same_state_self, step_same, same_step_self, add, add_there, add_new, add_more, among_later, among_here, among_cases, new_add}
 
 abbrev pub at : {States : Type 0} → State States → ℕ → Step States

@@ -1,17 +1,16 @@
 -- The law of a series, and of any two.
-use Rattle.std.proofs.Common.{◌≡◌, ℕ, ◌+◌, ◌<◌, ◌≤◌, min, cond, List, [], ◌∷◌, ◌++◌, map, length, Some, None, Option, sym, refl, ap, ◌∙◌, subst, zero-add, arith}
+use Rattle.std.proofs.Common.{◌≡◌, ℕ, ◌≤◌, min, List, [], ◌∷◌, ◌++◌, map, length, Some, None, sym, refl, ap, ◌∙◌, subst, zero-add, arith}
 use Rattle.refusal.specs.declared.Refusal.{Refusal}
 use Rattle.memory.proofs.Sizes.{size_nothing}
 use Rattle.theory.specs.Reads.{Read, State, Step}
 use Rattle.law.specs.Subject.{Subject, Proper}
-use Rattle.law.specs.Memory.{Memory, sets_live, allowance, steps_known, with_limit, opened, Sound}
-use Rattle.law.specs.Reading.{Counts, Walk}
-use Rattle.law.specs.Calls.{Query, Request, Search, Limit, Clear, Answer, Searched, Dropped, Refused, refusal, findings, reads, Limited, within, beyond, Answered, refused, searched, limited, cleared, Series}
-use Rattle.law.specs.Met.{unless_refused, call_reads, all_reads, number_of_sets, number_of_steps}
-use Rattle.law.specs.Law.{counts, searches, define, built, dropped, Uncleared, next_limit, least, Lawful, EverySeries, AnyTwo, Law}
-use Rattle.law.proofs.Maps.{some_not}
+use Rattle.law.specs.Memory.{Memory, allowance, with_limit, opened, Sound}
+use Rattle.law.specs.Reading.{Counts}
+use Rattle.law.specs.Calls.{Query, Request, Search, Limit, Clear, Answer, Dropped, refusal, reads, Limited, within, beyond, Answered, refused, searched, limited, cleared, Series}
+use Rattle.law.specs.Met.{unless_refused, call_reads, all_reads, number_of_steps}
+use Rattle.law.specs.Law.{counts, define, dropped, Uncleared, next_limit, least, EverySeries, AnyTwo, Law}
 use Rattle.law.proofs.Possible.{possible}
-use Rattle.law.proofs.Calling.{sound_empty, Calling, calling, going, cleared_last, idle}
+use Rattle.law.proofs.Calling.{sound_empty, calling, going, cleared_last, idle}
 use Rattle.law.proofs.Exact.{Carry, carry_opened, Carried, carry_walk, seen_after, keys_after, sets_in_all, keys_in_all, sets_append, keys_append, seen_append, key_append, sets_front, keys_front, keys_end}
 
 module _ {Sym : Type 0} where

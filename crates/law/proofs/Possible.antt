@@ -1,5 +1,5 @@
 -- Every row of requests can be answered: some policy, that gives up one place at a time, always has a way on.
-use Rattle.std.proofs.Common.{◌≡◌, ℕ, zero, suc, ◌+◌, ◌-◌, ◌*◌, ◌/◌, ◌%◌, ◌<◌, ◌≤◌, min, Bool, true, false, cond, eqb, ltb, ◌⊎◌, List, [], ◌∷◌, ◌++◌, length, drop, Some, None, Option, sym, refl, ap, ◌∙◌, subst, inl, inr, ⊎_elim, arith}
+use Rattle.std.proofs.Common.{◌≡◌, ℕ, zero, suc, ◌-◌, ◌*◌, ◌/◌, ◌%◌, ◌<◌, ◌≤◌, Bool, true, false, cond, eqb, ltb, ◌⊎◌, List, [], ◌∷◌, ◌++◌, drop, Some, None, Option, sym, refl, ap, ◌∙◌, subst, inl, inr, ⊎_elim, arith}
 use Rattle.std.proofs.lemmas.Bool.{cases_Bool, cases_eq, both_ways, eqb-true, eq-eqb, ltb-true, ltb-false}
 use Rattle.refusal.specs.declared.Refusal.{Refusal}
 use Rattle.sets.specs.Members.{Members}
@@ -8,18 +8,17 @@ use Rattle.memory.specs.Steps.{Map, without, unless, size, one}
 use Rattle.memory.specs.Steps as maps
 use Rattle.memory.specs.Live.{May}
 use Rattle.theory.specs.declared.Span.{Span}
-use Rattle.theory.specs.Machine.{Machine}
 use Rattle.theory.specs.Scans.{find, start}
 use Rattle.theory.specs.Reads.{Read, State, source, target, back_reads, ahead_reads, start_reads, find_reads, next_reads, list_reads}
 use Rattle.law.specs.Subject.{Subject, Proper}
-use Rattle.law.specs.Memory.{Memory, taken, held_places, sets_live, allowance, steps_known, Absent, without_places, with_limit, opened, Chosen, Seated, already, room, made, nowhere, Noted, spare, full, Sound}
+use Rattle.law.specs.Memory.{Memory, held_places, sets_live, allowance, steps_known, Absent, without_places, with_limit, opened, Chosen, Seated, already, room, made, nowhere, spare, full, Sound}
 use Rattle.law.specs.Reading.{Counts, OneRead, known, built, plain, Walk}
-use Rattle.law.specs.Calls.{Query, Find, Lists, Whole, Request, Search, Limit, Clear, Answer, Searched, Dropped, Refused, refusal, findings, reads, within, beyond, Answered, refused, searched, limited, cleared, Series}
+use Rattle.law.specs.Calls.{Query, Find, Lists, Whole, Request, Search, Limit, Clear, Answer, Refused, refusal, reads, within, beyond, Answered, refused, searched, limited, cleared, Series}
 use Rattle.law.specs.Met.{same_state}
 use Rattle.law.specs.Law.{Fit, Fitting, Possible}
 use Rattle.law.proofs.Tally.{tally_lowest}
 use Rattle.law.proofs.Maps.{some_not, some_same}
-use Rattle.law.proofs.Seats.{taken_some, Seating, seating, room_made}
+use Rattle.law.proofs.Seats.{taken_some, seating, room_made}
 use Rattle.law.proofs.Readings.{cases_step, reading}
 use Rattle.law.proofs.Once.{state_same, same_state_self}
 use Rattle.law.proofs.Calling.{sound_empty, calling}

@@ -1,11 +1,11 @@
 -- One read keeps a memory sound, and is counted once.
-use Rattle.std.proofs.Common.{◌≡◌, ℕ, zero, suc, ◌+◌, ◌<◌, ◌≤◌, min, Bool, true, false, cond, ◌⊎◌, Some, None, Option, sym, refl, ap, ◌∙◌, subst, inl, inr, ⊎_elim, arith}
+use Rattle.std.proofs.Common.{◌≡◌, ℕ, ◌+◌, ◌<◌, ◌≤◌, true, ◌⊎◌, Some, None, Option, sym, refl, ◌∙◌, subst, inl, inr, ⊎_elim, arith}
 use Rattle.memory.specs.Steps.{Map, nothing, noted, size}
 use Rattle.memory.proofs.Sizes.{size_noted, size_nothing}
-use Rattle.theory.specs.Reads.{Read, State, source, target}
+use Rattle.theory.specs.Reads.{Read, source, target}
 use Rattle.law.specs.Subject.{Subject, leads, Proper}
 use Rattle.law.specs.Memory.{Memory, allowance, steps_known, Seated, already, Noted, spare, full, with_steps, Joins, Sound}
-use Rattle.law.specs.Reading.{Counts, Unknown, OneRead, known, built, plain}
+use Rattle.law.specs.Reading.{Counts, OneRead, known, built, plain}
 use Rattle.law.proofs.Maps.{some_not, Other, noted_cases}
 use Rattle.law.proofs.Seats.{Seating, seating, nowhere_few}
 

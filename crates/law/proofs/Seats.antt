@@ -1,14 +1,14 @@
 -- Seating keeps a memory sound.
-use Rattle.std.proofs.Common.{◌≡◌, ℕ, ◌+◌, ◌<◌, ◌≤◌, min, Bool, true, false, cond, not, ◌&&◌, ◌||◌, eqb, ltb, ◌⊎◌, Some, None, Option, sym, refl, ap, ◌∙◌, subst, inl, inr, ⊎_elim, arith}
+use Rattle.std.proofs.Common.{◌≡◌, ℕ, ◌+◌, ◌<◌, ◌≤◌, Bool, true, false, cond, not, ◌&&◌, ◌||◌, eqb, ◌⊎◌, Some, None, Option, sym, refl, ap, ◌∙◌, subst, inl, inr, ⊎_elim, arith}
 use Rattle.std.proofs.lemmas.Bool.{cases_Bool, cases_eq, eq-eqb, ne_eqb, both_ways, lt-ltb}
-use Rattle.sets.specs.Members.{Members, plus, less, tally}
+use Rattle.sets.specs.Members.{Members}
 use Rattle.sets.specs.Places.{LowestFree}
 use Rattle.memory.specs.Live.{May}
 use Rattle.theory.specs.Reads.{State}
 use Rattle.law.specs.Subject.{Subject}
 use Rattle.law.specs.Memory.{Memory, taken, held_places, sets_live, steps_known, allowance, Absent, with_set, without_places, Chosen, Seated, already, room, made, nowhere, Joins, Sound}
 use Rattle.law.proofs.Tally.{tally_zero, tally_put, tally_mono, tally_fewer, tally_single, tally_lowest}
-use Rattle.law.proofs.Maps.{some_not, some_same, Left, left}
+use Rattle.law.proofs.Maps.{some_not, some_same, left}
 
 and_false : (b : Bool) → (b && false) ≡ false
 and_false true = refl

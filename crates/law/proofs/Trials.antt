@@ -1,14 +1,13 @@
 -- How every searcher counts ab* in "abb".
-use Rattle.std.proofs.Common.{◌≡◌, ℕ, zero, suc, ◌+◌, ◌<◌, ◌≤◌, min, Bool, true, false, cond, eqb, ltb, ◌⊎◌, List, [], ◌∷◌, map, length, Some, None, Option, sym, refl, ap, ◌∙◌, subst, inl, inr, ⊎_elim, arith}
+use Rattle.std.proofs.Common.{◌≡◌, ℕ, zero, suc, ◌<◌, ◌≤◌, Bool, true, false, cond, eqb, ltb, List, [], ◌∷◌, Some, sym, refl, ap, ◌∙◌, subst, arith}
 use Rattle.std.proofs.lemmas.Bool.{lt-ltb, ltb-true, eqb-true, ne_eqb}
 use Rattle.theory.specs.Masks.{those, some}
-use Rattle.law.specs.Subject.{Subject, Proper}
-use Rattle.law.specs.Memory.{Memory, sets_live, allowance, with_limit, opened, Sound}
+use Rattle.law.specs.Subject.{Proper}
+use Rattle.law.specs.Memory.{Memory, allowance, with_limit, opened, Sound}
 use Rattle.law.specs.Reading.{Counts, Walk}
-use Rattle.law.specs.Calls.{Query, Request, Search, Limit, Findings, Found, Answer, Searched, Dropped, Refused, refusal, findings, reads, Limited, within, beyond, Answered, refused, searched, limited, cleared, Series}
+use Rattle.law.specs.Calls.{Query, Request, Search, Limit, Found, Answer, Searched, Dropped, Refused, findings, reads, Limited, within, beyond, Answered, refused, searched, limited, cleared}
 use Rattle.law.specs.Met.{number_of_sets, number_of_steps}
-use Rattle.law.specs.Law.{counts, finds, Outcome, outcome, define, Lawful}
-use Rattle.law.specs.Alphabets.{Classes}
+use Rattle.law.specs.Law.{counts, finds, outcome, define}
 use Rattle.law.specs.Trials.{byte_at, class_from, ab, abb, counted, Always}
 use Rattle.law.proofs.Maps.{some_not}
 use Rattle.law.proofs.Calling.{sound_empty, calling, search_same, limit_search, clear_search, clear_limit}

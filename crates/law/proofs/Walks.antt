@@ -1,5 +1,5 @@
 -- A row of reads keeps a memory sound, and is counted read by read.
-use Rattle.std.proofs.Common.{◌≡◌, ℕ, zero, suc, ◌+◌, ◌<◌, ◌≤◌, min, List, [], ◌∷◌, ◌++◌, length, sym, refl, ap, ◌∙◌, subst, add-zero, add_assoc, zero-add, arith}
+use Rattle.std.proofs.Common.{◌≡◌, ◌+◌, ◌≤◌, List, [], ◌∷◌, ◌++◌, length, sym, refl, ap, ◌∙◌, subst, add-zero, add_assoc, zero-add, arith}
 use Rattle.theory.specs.Reads.{Read}
 use Rattle.law.specs.Subject.{Subject, Proper}
 use Rattle.law.specs.Memory.{Memory, allowance, steps_known, Sound}

@@ -1,10 +1,10 @@
 -- The law over every series of calls on one searcher: what its answers are, what it remembers at the end, and how it counts.
-use Rattle.std.specs.Prelude.{◌≡◌, ℕ, ◌+◌, ◌-◌, ◌*◌, ◌<◌, ◌≤◌, min, Bool, true, cond, T, ◌↔◌, List, [], ◌∷◌, ◌++◌, map, length, Some, None, Option, nat_lt}
+use Rattle.std.specs.Prelude.{◌≡◌, ℕ, ◌+◌, ◌-◌, ◌*◌, ◌<◌, ◌≤◌, min, true, cond, T, ◌↔◌, List, [], ◌∷◌, ◌++◌, map, length, Some, None, Option, nat_lt}
 use Rattle.refusal.specs.declared.Refusal.{Refusal}
 use Rattle.theory.specs.Spans.{Finds}
 use Rattle.theory.specs.Spans as spans
 use Rattle.theory.specs.Reads.{State}
-use Rattle.law.specs.Subject.{Subject, Word, Proper}
+use Rattle.law.specs.Subject.{Subject, Word}
 use Rattle.law.specs.Memory.{Memory, sets_live, steps_known, opened, Joins}
 use Rattle.law.specs.Reading.{Counts, zeros}
 use Rattle.law.specs.Calls.{Query, Find, Lists, Whole, Request, Search, Limit, Clear, Findings, Found, Listed, Told, Answer, Searched, Dropped, Refused, refusal, findings, reads, Answered, Series}

@@ -5,7 +5,7 @@ use Rattle.theory.specs.declared.Direction.{Direction}
 use Rattle.theory.specs.declared.Direction.TheVariants.{Ahead, Back}
 use Rattle.theory.specs.Reads.{Read, State, source, target, Step, step}
 use Rattle.law.specs.Subject.{Subject}
-use Rattle.law.specs.Calls.{Query, Request, Search, Limit, Clear, refusal, reads}
+use Rattle.law.specs.Calls.{Request, Search, Limit, Clear, refusal, reads}
 
 abbrev pub unless_refused : {A : Type 0} → Option Refusal → List A → List A
 unless_refused None xs = xs

@@ -5,8 +5,7 @@ use Rattle.pattern.specs.Tree.Tree.{atom, join, star}
 use Rattle.refusal.specs.declared.Cause.TheVariants.{FromPastEnd, LimitTooLarge}
 use Rattle.law.specs.Subject.{Subject}
 use Rattle.law.specs.Memory.{Memory, opened}
-use Rattle.law.specs.Reading.{Counts}
-use Rattle.law.specs.Calls.{Query, Find, Lists, Whole, Request, Search, Limit, Findings, Found, Listed, Told, Answer, Searched, Dropped, refusal, Series}
+use Rattle.law.specs.Calls.{Query, Find, Lists, Whole, Request, Search, Limit, Found, Listed, Told, Answer, Searched, Dropped, refusal, Series}
 use Rattle.law.specs.Met.{number_of_sets, number_of_steps}
 use Rattle.law.specs.Law.{define, finds, refuses}
 use Rattle.law.specs.Alphabets.{masked}

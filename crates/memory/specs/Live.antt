@@ -1,5 +1,5 @@
 -- What a policy is told, and what it may choose of the live places that it was told of.
-use Rattle.std.specs.Prelude.{◌≡◌, ℕ, true, Some, None, Option, ◌≢◌}
+use Rattle.std.specs.Prelude.{◌≡◌, ℕ, true, Some, Option, ◌≢◌}
 use Rattle.sets.specs.Members.{Members}
 
 -- the place is live and not held

@@ -1,7 +1,7 @@
-use Rattle.std.proofs.Common.{◌≡◌, ℕ, zero, suc, ◌+◌, ◌-◌, ◌<◌, ◌≤◌, Bool, true, false, cond, ◌&&◌, ◌||◌, eqb, ltb, ◌⊎◌, List, length, get_or, set, Some, None, Option, sym, refl, ap, ◌∙◌, subst, ⊎_elim, add-one, arith, get_or-set_other, get_or-set_same}
+use Rattle.std.proofs.Common.{◌≡◌, ℕ, zero, suc, ◌+◌, ◌-◌, ◌<◌, ◌≤◌, Bool, true, false, cond, ◌&&◌, ◌||◌, eqb, ltb, List, length, set, Some, None, Option, sym, refl, ap, ◌∙◌, subst, ⊎_elim, add-one, arith, get_or-set_other, get_or-set_same}
 use mathlib.Core.Path.{fun_ext}
-use Rattle.std.proofs.lemmas.Bool.{and_from, both_ways, cases_Bool, cases_eq, and_parts, eqb-true, lt-ltb, le-ltb, eq-eqb, ne_eqb}
-use Rattle.memory.specs.Steps.{Map, size, noted, is_none, nothing, without, unless, notable}
+use Rattle.std.proofs.lemmas.Bool.{and_from, both_ways, cases_Bool, cases_eq, and_parts, eqb-true, lt-ltb, le-ltb, eq-eqb}
+use Rattle.memory.specs.Steps.{Map, size, noted, is_none, without, unless, notable}
 use Rattle.memory.proofs.Sizes.{noted_other}
 use Rattle.pair_shelf.specs.declared.step.Step.{Step}
 use Rattle.pair_shelf.specs.Pairs.{pairs, distinct, new, at, no_step}

@@ -1,12 +1,9 @@
-use Rattle.std.proofs.Common.{◌≡◌, ℕ, zero, suc, ◌+◌, ◌-◌, ◌<◌, ◌≤◌, Bool, true, false, cond, not, ◌&&◌, ◌||◌, eqb, ltb, ◌⊎◌, Some, None, Option, sym, refl, ap, ◌∙◌, subst, inl, inr, ⊎_elim, arith}
-use Rattle.std.proofs.lemmas.Bool.{cases_Bool, cases_eq, cases_lt, lt-ltb, le-ltb, eq-eqb, ne_eqb, both_ways, and_parts, and_from, not-true, not_from_false, not_from_true, and_left, and_right}
+use Rattle.std.proofs.Common.{◌≡◌, ℕ, suc, ◌+◌, ◌-◌, ◌<◌, ◌≤◌, true, false, not, eqb, Some, None, Option, sym, refl, ap, ◌∙◌, arith}
+use Rattle.std.proofs.lemmas.Bool.{eq-eqb, ne_eqb, both_ways, and_parts, and_from, not-true, not_from_false}
 use Rattle.std.proofs.lemmas.Bool.Decides.{nat_tests}
-use Rattle.sets.specs.declared.places.PlaceSet.{PlaceSet}
-use Rattle.sets.specs.Members.{Members, none, plus, except}
-use Rattle.sets.specs.Places.{member}
-use Rattle.sets.proofs.Known.{member_low}
+use Rattle.sets.specs.Members.{Members, except}
 use Rattle.memory.specs.Live.{May}
-use Rattle.policies.specs.Round.{next, others, Way, way, going, round, only, hand_after}
+use Rattle.policies.specs.Round.{next, others, way, going, only}
 
 pub past : (may : Members) (n : ℕ) (marks : Members) (at : ℕ) → may at ≡ false → going may (suc n) marks at ≡ going may n marks (next at)
 unfolding going

@@ -1,5 +1,5 @@
 -- What the clock chooses, told without its way: by how far a place lies ahead of the hand.
-use Rattle.std.specs.Prelude.{◌≡◌, ℕ, ◌+◌, ◌-◌, ◌<◌, ◌≤◌, Bool, true, false, cond, not, ◌&&◌, ◌⊎◌, Some, None, Option, nat_lt}
+use Rattle.std.specs.Prelude.{◌≡◌, ℕ, ◌+◌, ◌-◌, ◌<◌, ◌≤◌, true, false, cond, not, ◌&&◌, ◌⊎◌, Some, None, Option, nat_lt}
 use Rattle.sets.specs.Members.{Members, less}
 use Rattle.policies.specs.Round.{only, hand_after}
 

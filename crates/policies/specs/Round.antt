@@ -1,5 +1,5 @@
 -- The live places that may be chosen, and the clock's way round the 64 places.
-use Rattle.std.specs.Prelude.{ℕ, zero, suc, ◌+◌, Bool, true, false, cond, Some, None, Option, nat_lt}
+use Rattle.std.specs.Prelude.{ℕ, zero, suc, ◌+◌, cond, Some, None, Option, nat_lt}
 use Rattle.sets.specs.Members.{Members, none, plus, except}
 
 -- the live places without the held one

@@ -4,8 +4,7 @@ use Rattle.items.specs.declared.Placed.{Placed}
 use Rattle.items.specs.declared.Token.{Token}
 use Rattle.items.specs.declared.Token.TheVariants.{Space, Sign, Atom}
 use Rattle.grammar.specs.Grammar.{atoms}
-use Rattle.grammar.specs.Parse as Parse
-use Rattle.reader.specs.Rows.{Found, with_item, items, with_test, tests, surplus, past}
+use Rattle.reader.specs.Rows.{Found, with_item, items, with_test, tests, surplus}
 use Rattle.reader.proofs.Rows.{tests_append}
 
 -- each atom has a test

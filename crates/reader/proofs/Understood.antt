@@ -1,17 +1,17 @@
 -- From the lexemes and the checks of a text to its reading and the law.
-use Rattle.std.proofs.Common.{◌≡◌, ℕ, ◌+◌, ◌<◌, ◌≤◌, cond, List, [], ◌∷◌, ◌++◌, length, take, Some, None, Ok, Err, Option, Result, sym, refl, ap, ◌∙◌, subst, arith, le-ltb, lt-ltb}
+use Rattle.std.proofs.Common.{◌≡◌, ℕ, ◌<◌, ◌≤◌, cond, List, [], ◌∷◌, ◌++◌, length, take, Some, None, Ok, Err, Option, Result, sym, refl, ap, ◌∙◌, subst, arith, le-ltb, lt-ltb}
 use Rattle.std.proofs.lemmas.List.{take_all}
 use Rattle.refusal.specs.declared.Cause.{Cause}
 use Rattle.refusal.specs.declared.Cause.TheVariants.{TextTooLong, TooManyAtoms}
 use Rattle.refusal.specs.declared.Refusal.{Refusal}
 use Rattle.pattern.specs.declared.Code.{Code}
 use Rattle.items.specs.declared.Placed.{Placed}
-use Rattle.grammar.specs.Grammar.{Pattern, atoms}
+use Rattle.grammar.specs.Grammar.{Pattern}
 use Rattle.grammar.specs.Law.{Shaped, Understood}
 use Rattle.grammar.specs.Parse.{parse}
 use Rattle.grammar.specs.Parse as Parse
 use Rattle.reader.specs.Law.{RowOf, ReadsAs, Met}
-use Rattle.reader.specs.Reading.{lex, refusal, by_structure, by_count, by_lexemes, reading, outcome}
+use Rattle.reader.specs.Reading.{lex, refusal, by_structure, by_count, by_lexemes, reading}
 use Rattle.reader.specs.Reading.Reading.{refused}
 use Rattle.reader.specs.Rows.{Lexer, Found, Row, items, tests, surplus}
 use Rattle.reader.specs.Steps.{Whole, Stopped, ByCount, Checked, Filled}

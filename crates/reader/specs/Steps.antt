@@ -1,5 +1,5 @@
 -- What the parts of the reader leave behind: one token, and a whole text.
-use Rattle.std.specs.Prelude.{◌≡◌, ℕ, ◌+◌, ◌<◌, ◌≤◌, List, [], ◌∷◌, ◌++◌, length, take, Some, None, Ok, Err, Option, Result}
+use Rattle.std.specs.Prelude.{◌≡◌, ℕ, ◌<◌, ◌≤◌, List, [], ◌∷◌, ◌++◌, length, take, Some, None, Ok, Err, Option, Result}
 use Rattle.collector.specs.declared.Collector.{Collector}
 use Rattle.refusal.specs.declared.Cause.TheVariants.{TooManyAtoms}
 use Rattle.refusal.specs.declared.Refusal.{Refusal}

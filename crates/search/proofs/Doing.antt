@@ -1,12 +1,12 @@
 -- Calls on a searcher, from the answers that the law asks for.
-use Rattle.std.proofs.Common.{◌≡◌, ℕ, ◌<◌, ◌≤◌, Bool, cond, eqb, ltb, List, length, drop, Some, None, Option, sym, refl, ap, ◌∙◌, subst}
+use Rattle.std.proofs.Common.{◌≡◌, ℕ, ◌≤◌, Bool, cond, ltb, List, length, drop, Some, None, Option, sym, ap, ◌∙◌, subst}
 use Rattle.std.proofs.lemmas.Bool.{lt-ltb}
 use Rattle.refusal.specs.declared.Refusal.{Refusal}
 use Rattle.sets.specs.declared.positions.PositionSet.{PositionSet}
 use Rattle.memory.specs.declared.shelf.Shelf.{Ghosts as ShelfMeaning}
 use Rattle.memory.specs.declared.policy.Policy.{Ghosts as PolicyMeaning}
 use Rattle.theory.specs.declared.Span.{Span}
-use Rattle.theory.specs.Scans.{start, far, find, whole}
+use Rattle.theory.specs.Scans.{start, find, whole}
 use Rattle.theory.specs.Spans.{Finds}
 use Rattle.law.specs.Subject.{Proper, Word}
 use Rattle.law.specs.Memory.{Memory}

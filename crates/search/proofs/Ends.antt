@@ -1,5 +1,5 @@
 -- Whole calls, put together.
-use Rattle.std.proofs.Common.{◌≡◌, ℕ, zero, suc, ◌+◌, ◌-◌, ◌*◌, ◌<◌, ◌≤◌, Bool, true, false, cond, not, ◌&&◌, eqb, ltb, ◌⊎◌, List, [], ◌∷◌, ◌++◌, length, get_or, drop, Some, None, Option, sym, refl, ap, ◌∙◌, subst, inl, inr, ⊎_elim, arith}
+use Rattle.std.proofs.Common.{◌≡◌, ℕ, suc, ◌+◌, ◌<◌, ◌≤◌, Bool, true, false, cond, not, ◌&&◌, eqb, ltb, ◌⊎◌, List, [], ◌∷◌, ◌++◌, length, drop, Some, None, Option, sym, refl, ap, ◌∙◌, subst, inl, inr, ⊎_elim, arith}
 use mathlib.Core.Path.{fun_ext}
 use Rattle.std.proofs.lemmas.Bool.{cases_lt, cases_Bool, lt-ltb, le-ltb, ne_eqb, eq-eqb}
 use Rattle.std.proofs.lemmas.List.{append-nil}
@@ -8,16 +8,14 @@ use Rattle.refusal.specs.declared.Cause.TheVariants.{RecordTooLong, FromPastEnd,
 use Rattle.refusal.specs.declared.Refusal.{Refusal}
 use Rattle.sets.specs.Members.{Members, none, below, less}
 use Rattle.sets.specs.declared.positions.PositionSet.{PositionSet}
-use Rattle.memory.specs.Steps.{size, without}
 use Rattle.memory.proofs.Sizes.{size_nothing}
 use Rattle.theory.specs.declared.Span.{Span}
-use Rattle.theory.specs.Reads.{Read, State, back_reads, ahead_reads, start_reads, find_reads, list_reads, whole_reads}
+use Rattle.theory.specs.Reads.{Read, State, back_reads, ahead_reads, start_reads, find_reads, list_reads}
 use Rattle.theory.specs.Scans.{start, far, from_start, find, list, run, whole}
-use Rattle.law.specs.Subject.{Subject, Proper}
+use Rattle.law.specs.Subject.{Subject}
 use Rattle.law.specs.Memory.{Memory, taken, sets_live, allowance, steps_known, without_places, emptied, with_limit, Sound}
-use Rattle.law.specs.Reading.{Counts as Tallies, both, zeros, Walk}
-use Rattle.law.specs.Calls.{Query, Find, Lists, Whole, Request, Search, Limit, Clear, Found, Listed, Told, Searched, Dropped, Refused, refused_if, refusal, Limited, within, beyond, Answered, refused, searched, limited, cleared}
-use Rattle.law.proofs.Maps.{some_not}
+use Rattle.law.specs.Reading.{Counts as Tallies, both, Walk}
+use Rattle.law.specs.Calls.{Find, Lists, Whole, Search, Limit, Clear, Found, Listed, Told, Searched, Dropped, Refused, refused_if, refusal, within, beyond, Answered, refused, searched, limited, cleared}
 use Rattle.law.proofs.Walks.{walk_append}
 use Rattle.search.proofs.Views.{same_memory}
 use Rattle.search.proofs.Noting.{none_left}

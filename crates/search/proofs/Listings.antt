@@ -1,5 +1,5 @@
 -- The turns of a list.
-use Rattle.std.proofs.Common.{◌≡◌, ℕ, zero, suc, ◌+◌, ◌-◌, ◌<◌, ◌≤◌, Bool, true, false, cond, ltb, List, [], ◌∷◌, ◌++◌, length, take, drop, set, Some, None, Option, sym, refl, ap, ◌∙◌, subst, arith, length-set}
+use Rattle.std.proofs.Common.{◌≡◌, ℕ, zero, suc, ◌+◌, ◌-◌, ◌≤◌, true, false, List, [], ◌∷◌, ◌++◌, length, take, drop, Some, None, Option, sym, refl, ap, ◌∙◌, subst, arith, length-set}
 use Rattle.std.proofs.lemmas.List.{append_assoc, append-nil, take_more_set, drop-set-lt, drop-drop}
 use Rattle.std.proofs.lemmas.Bool.{ltb-true, ltb-false}
 use Rattle.collector.specs.declared.Collector.{Collector}
@@ -10,7 +10,7 @@ use Rattle.memory.specs.declared.policy.Policy.{Ghosts as PolicyMeaning}
 use Rattle.theory.specs.declared.Span.{Span}
 use Rattle.theory.specs.Reads.{Read, find_reads, next_reads, list_reads}
 use Rattle.theory.specs.Scans.{find, no_entry, one_entry, list}
-use Rattle.law.specs.Subject.{Subject, Proper}
+use Rattle.law.specs.Subject.{Subject}
 use Rattle.law.specs.Memory.{Memory}
 use Rattle.law.specs.Reading.{Counts as Tallies, zeros, both, Walk}
 use Rattle.law.proofs.Walks.{walk_append}

@@ -1,20 +1,20 @@
 -- One read, put together from its seatings.
-use Rattle.std.proofs.Common.{◌≡◌, ℕ, ◌+◌, ◌<◌, ◌≤◌, Bool, true, false, ◌⊎◌, List, get_or, IfSome, Some, None, Option, sym, refl, ap, ◌∙◌, subst, inl, inr, arith, MatchOption}
+use Rattle.std.proofs.Common.{◌≡◌, ℕ, ◌+◌, ◌<◌, true, ◌⊎◌, List, get_or, IfSome, Some, None, Option, sym, refl, ap, ◌∙◌, subst, arith, MatchOption}
 use Rattle.sets.specs.Members.{Members}
 use Rattle.sets.specs.declared.positions.PositionSet.{PositionSet}
 use Rattle.memory.specs.Steps.{Map, Bounds, size}
 use Rattle.theory.specs.declared.Direction.{Direction}
-use Rattle.theory.specs.Reads.{State, source}
+use Rattle.theory.specs.Reads.{State}
 use Rattle.law.specs.Subject.{Subject, leads, Proper}
-use Rattle.law.specs.Memory.{Memory, Seated, Noted, spare, full, Joins, Sound}
-use Rattle.law.specs.Reading.{Counts as Tallies, Unknown, OneRead, known, built, plain}
+use Rattle.law.specs.Memory.{Memory, Seated, Noted, spare, full, Sound}
+use Rattle.law.specs.Reading.{Unknown, known, built, plain}
 use Rattle.law.proofs.Maps.{some_same}
 use Rattle.law.proofs.Seats.{Seating, seating}
 use Rattle.law.proofs.Readings.{unknown_stays}
 use Rattle.search.specs.declared.searcher.Cursor.{Cursor}
 use Rattle.search.specs.declared.searcher.Move.{Move}
 use Rattle.search.specs.Counted.{tallied}
-use Rattle.search.specs.Remembered.{no_set, state, read, lives, Notable, At, Moved}
+use Rattle.search.specs.Remembered.{no_set, state, lives, Notable, Moved}
 use Rattle.search.proofs.Views.{is_here}
 
 pub known_of : (m : Memory PositionSet) (place : Option ℕ) (p c : ℕ) (o : Option ℕ) → place ≡ Some p → o ≡ m.known p c → MatchOption o (Unknown m place c) (λ t. (p' : ℕ) × (place ≡ Some p') × (m.known p' c ≡ Some t))

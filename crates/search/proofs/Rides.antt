@@ -1,12 +1,12 @@
 -- The turns of a run over known steps.
-use Rattle.std.proofs.Common.{◌≡◌, ℕ, ◌+◌, ◌-◌, ◌<◌, ◌≤◌, Bool, true, false, cond, List, length, get_or, Some, None, Option, sym, refl, ap, ◌∙◌, subst, arith}
+use Rattle.std.proofs.Common.{◌≡◌, ℕ, ◌+◌, ◌<◌, Bool, true, false, cond, List, length, get_or, Some, sym, refl, ap, ◌∙◌, subst, arith}
 use Rattle.sets.specs.Places.{member}
 use Rattle.sets.specs.declared.positions.PositionSet.{PositionSet}
 use Rattle.memory.specs.declared.shelf.Shelf.{Ghosts as ShelfMeaning}
 use Rattle.memory.specs.declared.policy.Policy.{Ghosts as PolicyMeaning}
 use Rattle.theory.specs.declared.Direction.{Direction}
 use Rattle.theory.specs.declared.Direction.TheVariants.{Ahead, Back}
-use Rattle.law.specs.Subject.{Subject, leads, Proper}
+use Rattle.law.specs.Subject.{leads, Proper}
 use Rattle.law.specs.Memory.{Memory, Sound}
 use Rattle.law.specs.Reading.{Counts as Tallies, both, OneRead}
 use Rattle.law.proofs.Readings.{known_read}

@@ -1,5 +1,5 @@
 -- What a searcher's fields make of its memory.
-use Rattle.std.proofs.Common.{◌≡◌, ℕ, ◌+◌, ◌<◌, ◌≤◌, Bool, true, false, cond, not, ◌&&◌, ◌||◌, eqb, ltb, ◌⊎◌, List, length, get_or, set, Some, None, Option, sym, refl, ap, ◌∙◌, subst, inl, inr, ⊎_elim, arith, get_or-set_other, get_or-set_same}
+use Rattle.std.proofs.Common.{◌≡◌, ℕ, ◌<◌, Bool, true, false, cond, not, ◌&&◌, eqb, ltb, List, length, get_or, set, Some, None, Option, sym, refl, ap, ◌∙◌, subst, ⊎_elim, get_or-set_other, get_or-set_same}
 use mathlib.Core.Path.{fun_ext}
 use mathlib.Core.Bool.{beq}
 use Rattle.std.proofs.lemmas.Bool.{cases_Bool, cases_eq, eq-eqb, ne_eqb, lt-ltb, ltb-true, and_parts, both_ways}
@@ -8,19 +8,18 @@ use Rattle.sets.specs.Places.{member, LowestFree}
 use Rattle.sets.specs.declared.places.PlaceSet.{PlaceSet}
 use Rattle.sets.specs.declared.positions.PositionSet.{PositionSet}
 use Rattle.sets.proofs.Known.{member_low}
-use Rattle.memory.specs.Steps.{Map, size}
+use Rattle.memory.specs.Steps.{Map}
 use Rattle.memory.specs.declared.shelf.Shelf.{Ghosts as ShelfMeaning}
 use Rattle.memory.specs.declared.policy.Policy.{Ghosts as PolicyMeaning}
 use Rattle.theory.specs.declared.Direction.{Direction}
 use Rattle.theory.specs.declared.Direction.TheVariants.{Ahead, Back}
-use Rattle.theory.specs.Machine.{Machine}
 use Rattle.theory.specs.Reads.{State}
 use Rattle.law.specs.Memory.{Memory, taken, held_places}
 use Rattle.law.proofs.Maps.{some_not, some_same}
 use Rattle.law.proofs.Tally.{tally_same}
 use Rattle.automaton.specs.declared.automaton.Automaton.{Ghosts as AutomatonMeaning}
 use Rattle.search.specs.declared.searcher.Searcher.{Searcher}
-use Rattle.search.specs.Remembered.{heading, backward, no_set, state, lives, memory, marked, subject, Flagged, Kept}
+use Rattle.search.specs.Remembered.{heading, backward, no_set, state, lives, memory, marked, Flagged, Kept}
 
 memory_of : (l l' : ℕ → Option (State PositionSet)) (f f' : Map) (t t' : Members) (a a' b b' c c' : ℕ) → l ≡ l' → f ≡ f' → t ≡ t' → a ≡ a' → b ≡ b' → c ≡ c' → ◌≡◌ {A = Memory PositionSet} (record { live = l; known = f; told = t; limit = a; places = b; capacity = c }) (record { live = l'; known = f'; told = t'; limit = a'; places = b'; capacity = c' })
 memory_of l l' f f' t t' a a' b b' c c' e1 e2 e3 e4 e5 e6 = rw (e1, e2, e3, e4, e5, e6)

@@ -1,5 +1,5 @@
 -- A searcher's counts as the law has them, and how large they can be.
-use Rattle.std.specs.Prelude.{◌≡◌, ℕ, ◌+◌, ◌*◌, ◌≤◌}
+use Rattle.std.specs.Prelude.{ℕ, ◌+◌, ◌*◌, ◌≤◌}
 use Rattle.law.specs.Reading.{Counts as Tallies}
 use Rattle.search.specs.declared.counts.Counts.{Counts}
 

@@ -1,5 +1,5 @@
 -- The pattern ab* as it is written, read and classed.
-use Rattle.std.proofs.Common.{◌≡◌, ℕ, ◌<◌, true, ltb, List, codes, refl, arith}
+use Rattle.std.proofs.Common.{ℕ, ◌<◌, ltb, List, codes, refl, arith}
 use Rattle.std.proofs.lemmas.Bool.{lt-ltb, ltb-true}
 use Rattle.pattern.specs.declared.Code.{Code}
 use Rattle.symbols.specs.declared.ByteTest.{ByteTest}

@@ -1,4 +1,4 @@
-use Rattle.std.proofs.Common.{◌-◌, get_or, ◌∙◌, arith}
+use Rattle.std.proofs.Common.{get_or, ◌∙◌, arith}
 use Rattle.items.specs.declared.Item.{Item}
 use Rattle.grammar.specs.Grammar.{at}
 use Rattle.collector.specs.Pushing.{held}

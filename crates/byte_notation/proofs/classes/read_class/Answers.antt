@@ -1,4 +1,4 @@
-use Rattle.std.proofs.Common.{◌≡◌, ◌+◌, ◌<◌, ◌≤◌, true, false, [], ◌++◌, length, get_or, drop, codes, sym, refl, ap, ◌∙◌, arith, rules}
+use Rattle.std.proofs.Common.{◌≡◌, ◌<◌, ◌≤◌, true, false, [], ◌++◌, length, get_or, drop, codes, sym, refl, ap, ◌∙◌, arith, rules}
 use Rattle.byte_notation.specs.Classes.{names, starts}
 use Rattle.byte_notation.proofs.Fronts.{class_unopened, class_here, class_more, class_none, opened_at, named_at, eight_names}
 use Rattle.byte_notation.proofs.classes.read_class.Goals as goal

@@ -1,4 +1,4 @@
-use Rattle.std.proofs.Common.{◌≡◌, ℕ, ◌+◌, ◌<◌, Bool, List, sym, refl, ◌∙◌, subst, add_assoc, arith, rules}
+use Rattle.std.proofs.Common.{ℕ, ◌+◌, ◌<◌, Bool, List, sym, refl, ◌∙◌, subst, add_assoc, arith, rules}
 use Rattle.sets.specs.Members.{none, plus}
 use Rattle.dense_shelf.specs.Rows.{dense}
 use Rattle.dense_shelf.proofs.Sweeps.{RowsInv, swept_none, swept_more, rows_more, all_clean, swept_few}

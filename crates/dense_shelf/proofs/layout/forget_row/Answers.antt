@@ -1,4 +1,4 @@
-use Rattle.std.proofs.Common.{◌≡◌, ℕ, ◌+◌, ◌*◌, ◌<◌, ◌≤◌, Bool, List, length, set, sym, refl, ◌∙◌, arith, rules}
+use Rattle.std.proofs.Common.{ℕ, ◌+◌, ◌*◌, ◌<◌, ◌≤◌, Bool, List, length, set, sym, refl, ◌∙◌, arith, rules}
 use Rattle.sets.specs.Places.{member}
 use Rattle.dense_shelf.specs.Rows.{dense}
 use Rattle.dense_shelf.proofs.Cells.{cell_low, cells_fit}

@@ -1,4 +1,4 @@
-use Rattle.std.proofs.Common.{length, arith, rules}
+use Rattle.std.proofs.Common.{length, arith}
 use Rattle.dense_shelf.proofs.Cells.{cell_low, cells_fit}
 use Rattle.dense_shelf.proofs.layout.look_up.Goals as goal
 

@@ -1,4 +1,4 @@
-use Rattle.std.proofs.Common.{◌≡◌, ℕ, ◌+◌, ◌*◌, ◌<◌, ◌≤◌, length, sym, refl, ap, ◌∙◌, arith, rules}
+use Rattle.std.proofs.Common.{◌+◌, ◌*◌, ◌<◌, length, sym, refl, ap, ◌∙◌, arith, rules}
 use Rattle.dense_shelf.proofs.Cells.{behind_set, cell_low, cells_fit, free_yes, note_kept, note_wide}
 use Rattle.dense_shelf.specs.Rows.{behind}
 use Rattle.dense_shelf.proofs.layout.note_step.Goals as goal

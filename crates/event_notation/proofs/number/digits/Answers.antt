@@ -1,4 +1,4 @@
-use Rattle.std.proofs.Common.{◌≡◌, ◌+◌, ◌-◌, ◌*◌, ◌<◌, get_or, drop, sym, ap, ◌∙◌, add_assoc, arith, rules}
+use Rattle.std.proofs.Common.{◌+◌, ◌*◌, ◌<◌, drop, sym, ◌∙◌, add_assoc, arith, rules}
 use Rattle.event_notation.specs.Numbers.{digits}
 use Rattle.event_notation.proofs.Steps.{end, stop, over, more, grows}
 use Rattle.event_notation.proofs.number.digits.Goals as goal

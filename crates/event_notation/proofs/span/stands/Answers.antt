@@ -1,4 +1,4 @@
-use Rattle.std.proofs.Common.{◌≡◌, ◌<◌, true, false, length, sym, ◌∙◌, arith, le-ltb}
+use Rattle.std.proofs.Common.{◌<◌, length, sym, ◌∙◌, arith, le-ltb}
 use Rattle.std.proofs.lemmas.List.{at_drop_more, at_drop_all}
 use Rattle.std.proofs.lemmas.Bool.{ltb-true}
 use Rattle.event_notation.specs.Spans.{begins}

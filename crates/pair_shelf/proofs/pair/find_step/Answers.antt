@@ -1,5 +1,5 @@
-use Rattle.std.proofs.Common.{◌≡◌, ℕ, sym, ap, ◌∙◌, ⊎_elim, arith}
-use Rattle.pair_shelf.specs.Pairs.{pairs, at}
+use Rattle.std.proofs.Common.{◌≡◌, sym, ap, ◌∙◌, arith}
+use Rattle.pair_shelf.specs.Pairs.{pairs}
 use Rattle.pair_shelf.proofs.Keep.{look_hit, look_miss, pairs_none}
 use Rattle.pair_shelf.proofs.pair.find_step.Goals as goal
 use Rattle.pair_shelf.proofs.pair.find_step.Goals.{else-s-place-via-then-s-place+else-s-class, else-s-place-via-else-s-place}

@@ -1,4 +1,4 @@
-use Rattle.std.proofs.Common.{◌≡◌, ℕ, ◌+◌, ◌-◌, ◌<◌, sym, refl, ap, ◌∙◌, arith, rules}
+use Rattle.std.proofs.Common.{ℕ, ◌+◌, ◌-◌, ◌<◌, sym, ap, ◌∙◌, arith}
 use Rattle.sets.specs.Places.{member}
 use Rattle.policies.specs.Round.{going, next}
 use Rattle.policies.proofs.Ways.{past_more, cleared_more, stopped_more, ended_more}

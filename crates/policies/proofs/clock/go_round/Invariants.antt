@@ -1,4 +1,4 @@
-use Rattle.std.proofs.Common.{◌≡◌, ◌-◌, ◌≤◌}
+use Rattle.std.proofs.Common.{◌≡◌, ◌-◌}
 use Rattle.sets.specs.Places.{member}
 use Rattle.policies.specs.Round.{going, round}
 use Rattle.policies.proofs.clock.go_round.Given as goal

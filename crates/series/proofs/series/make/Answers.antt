@@ -1,4 +1,4 @@
-use Rattle.std.proofs.Common.{◌≡◌, length, sym, refl, subst, rules}
+use Rattle.std.proofs.Common.{length, sym, refl, subst}
 use Rattle.search.specs.Calling.{reply, Did}
 use Rattle.series.specs.Performed.{request}
 use Rattle.series.proofs.series.make.Goals as goal

@@ -1,4 +1,4 @@
-use Rattle.std.proofs.Common.{◌≡◌, sym, refl, ap, ◌∙◌, rules}
+use Rattle.std.proofs.Common.{ap, ◌∙◌}
 use Rattle.series.proofs.Runs.{lawful_run, agree}
 use Rattle.series.proofs.series.run.Goals as goal
 

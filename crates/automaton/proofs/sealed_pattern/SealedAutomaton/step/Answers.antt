@@ -1,4 +1,4 @@
-use Rattle.std.proofs.Common.{◌≡◌, ◌^◌, ◌<◌, sym, ap, ◌∙◌, rules}
+use Rattle.std.proofs.Common.{◌^◌, ◌<◌, sym, ap, ◌∙◌, rules}
 use Rattle.sealed.specs.Plans.{positions_of}
 use Rattle.law.specs.Subject.{leads}
 use Rattle.automaton.specs.Subjects.{sealed_subject}

@@ -1,4 +1,4 @@
-use Rattle.std.proofs.Common.{◌*◌, ◌≤◌, length, sym, refl, ap, ◌∙◌, arith, rules}
+use Rattle.std.proofs.Common.{◌*◌, ◌≤◌, length, sym, refl, ap, ◌∙◌, arith}
 use Rattle.dense_shelf.specs.Bounded.{rows_few}
 use Rattle.dense_shelf.specs.Rows.{behind}
 use Rattle.dense_shelf.proofs.Cells.{Whole, whole}

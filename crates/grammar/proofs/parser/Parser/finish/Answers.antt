@@ -1,4 +1,4 @@
-use Rattle.std.proofs.Common.{◌+◌, ◌-◌, ◌++◌, sym, refl, ◌∙◌}
+use Rattle.std.proofs.Common.{◌++◌, sym, refl, ◌∙◌}
 use Rattle.collector.specs.Pushing.{held}
 use Rattle.grammar.specs.Memory.{below, state_of}
 use Rattle.grammar.specs.Parse.{ends, done}

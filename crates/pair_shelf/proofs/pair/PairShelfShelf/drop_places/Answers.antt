@@ -1,4 +1,4 @@
-use Rattle.std.proofs.Common.{refl, arith, rules}
+use Rattle.std.proofs.Common.{refl, arith}
 use Rattle.pair_shelf.specs.Bounded.{pairs_size}
 use Rattle.pair_shelf.proofs.pair.PairShelfShelf.drop_places.Goals as goal
 

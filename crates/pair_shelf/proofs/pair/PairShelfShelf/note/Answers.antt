@@ -1,5 +1,4 @@
 use Rattle.std.proofs.Common.{◌<◌, length, sym, refl, ◌∙◌, arith, rules}
-use Rattle.pair_shelf.specs.Pairs.{pairs}
 use Rattle.pair_shelf.proofs.Keep.{pairs_push, fine_push, free_yes, free_no}
 use Rattle.pair_shelf.proofs.pair.PairShelfShelf.note.Goals as goal
 
@@ -20,7 +19,7 @@ invariant_of-self c =
     record {
       low = omega arith;
       ok = fine_push s.steps s.len (record { place = c.args.place; class = c.args.class; target = c.args.target }) l s.ok
-            (record { from = c.if-place-ge64.false; to = c.if-target-ge64.false; class = c.if-class-ge256.false; lacks = sym c.find_step.ensures ∙ c.in_default.is });
+          (record { from = c.if-place-ge64.false; to = c.if-target-ge64.false; class = c.if-class-ge256.false; lacks = sym c.find_step.ensures ∙ c.in_default.is });
     }
 
 pub returns : goal.returns

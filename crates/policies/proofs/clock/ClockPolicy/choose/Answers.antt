@@ -3,7 +3,6 @@ use Rattle.sets.specs.Members.{Members}
 use Rattle.sets.specs.Places.{member}
 use Rattle.sets.specs.declared.places.PlaceSet.{PlaceSet}
 use Rattle.sets.proofs.Known.{member_low}
-use Rattle.memory.specs.Live.{May}
 use Rattle.policies.specs.Round.{others, way, round, only, hand_after}
 use Rattle.policies.specs.Chosen.{Chosen}
 use Rattle.policies.proofs.Law.{round_chosen, choice_within, choice_some, others_low}

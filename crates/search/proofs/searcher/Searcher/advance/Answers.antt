@@ -1,4 +1,4 @@
-use Rattle.std.proofs.Common.{◌≡◌, ℕ, ◌+◌, ◌<◌, ◌≤◌, sym, refl, ap, ◌∙◌, subst, arith, rules}
+use Rattle.std.proofs.Common.{refl, subst, arith}
 use Rattle.sets.specs.Places.{member}
 use Rattle.law.specs.Memory.{Memory}
 use Rattle.sets.specs.declared.positions.PositionSet.{PositionSet}

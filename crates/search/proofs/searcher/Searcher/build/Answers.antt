@@ -1,5 +1,5 @@
-use Rattle.std.proofs.Common.{◌≡◌, ℕ, ◌+◌, ◌<◌, ◌≤◌, ◌⊎◌, sym, refl, ap, ◌∙◌, subst, inl, inr, arith, rules}
-use Rattle.search.specs.Remembered.{memory, subject}
+use Rattle.std.proofs.Common.{sym, refl, inl, inr, arith}
+use Rattle.search.specs.Remembered.{subject}
 use Rattle.search.proofs.Moves.{plain_moved, built_moved}
 use Rattle.search.proofs.Views.{kept_then}
 use Rattle.search.proofs.Hearing.{build_plain}

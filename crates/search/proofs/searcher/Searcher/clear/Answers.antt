@@ -1,4 +1,3 @@
-use Rattle.std.proofs.Common.{◌≡◌, ℕ, ◌+◌, ◌-◌, ◌<◌, ◌≤◌, length, sym, refl, ap, ◌∙◌, subst, arith, rules}
 use Rattle.sets.specs.Places.{member}
 use Rattle.search.specs.Remembered.{memory, subject}
 use Rattle.search.proofs.Doing.{did_by}

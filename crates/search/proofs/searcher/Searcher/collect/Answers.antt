@@ -1,4 +1,4 @@
-use Rattle.std.proofs.Common.{◌≡◌, ℕ, ◌+◌, ◌-◌, ◌*◌, ◌<◌, ◌≤◌, length, take, IfSome, Some, Option, sym, refl, ap, ◌∙◌, subst, arith, rules}
+use Rattle.std.proofs.Common.{◌+◌, ◌-◌, ◌*◌, ◌<◌, ◌≤◌, length, take, IfSome, Some, Option, sym, refl, ap, ◌∙◌, subst, arith}
 use Rattle.collector.specs.Pushing.{held, size}
 use Rattle.theory.specs.declared.Span.{Span}
 use Rattle.search.specs.Remembered.{memory}

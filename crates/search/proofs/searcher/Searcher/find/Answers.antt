@@ -1,4 +1,4 @@
-use Rattle.std.proofs.Common.{◌≡◌, ℕ, ◌+◌, ◌-◌, ◌<◌, ◌≤◌, length, sym, refl, ap, ◌∙◌, subst, arith, rules}
+use Rattle.std.proofs.Common.{sym, refl, ◌∙◌}
 use Rattle.search.specs.Remembered.{memory, subject}
 use Rattle.search.proofs.Doing.{did_refused, did_found}
 use Rattle.search.proofs.Ends.{find_long, find_past, accepted}

@@ -1,4 +1,4 @@
-use Rattle.std.proofs.Common.{◌≡◌, get_or, sym, ◌∙◌, rules}
+use Rattle.std.proofs.Common.{get_or, sym, ◌∙◌}
 use Rattle.sets.proofs.Known.{alike_is}
 use Rattle.search.proofs.Views.{same_bool}
 use Rattle.search.specs.Remembered.{no_set}

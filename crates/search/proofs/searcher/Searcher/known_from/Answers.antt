@@ -1,4 +1,3 @@
-use Rattle.std.proofs.Common.{rules}
 use Rattle.search.specs.Remembered.{memory}
 use Rattle.search.proofs.Moves.{known_of, low_of}
 use Rattle.search.proofs.searcher.Searcher.known_from.Goals as goal

@@ -1,4 +1,4 @@
-use Rattle.std.proofs.Common.{◌≡◌, ℕ, ◌+◌, ◌-◌, ◌<◌, ◌≤◌, length, sym, refl, ap, ◌∙◌, subst, arith, rules}
+use Rattle.std.proofs.Common.{refl, arith}
 use Rattle.sets.specs.Places.{member}
 use Rattle.search.specs.Remembered.{memory, subject}
 use Rattle.search.proofs.Doing.{did_refused, did_by}

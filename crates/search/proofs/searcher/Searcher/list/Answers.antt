@@ -1,5 +1,4 @@
-use Rattle.std.proofs.Common.{◌≡◌, ℕ, List, length, take, drop, sym, refl, ap, ◌∙◌, subst, rules}
-use Rattle.theory.specs.declared.Span.{Span}
+use Rattle.std.proofs.Common.{◌≡◌, length, take, drop, sym, refl, ap, ◌∙◌, subst, rules}
 use Rattle.search.specs.Remembered.{memory, subject}
 use Rattle.search.specs.Scanning.{Listed}
 use Rattle.search.proofs.Doing.{did_refused, did_listed}

@@ -1,4 +1,4 @@
-use Rattle.std.proofs.Common.{◌≡◌, ℕ, ◌+◌, ◌-◌, ◌<◌, ◌≤◌, length, IfSome, Option, sym, refl, ap, ◌∙◌, subst, arith, rules}
+use Rattle.std.proofs.Common.{ℕ, ◌-◌, ◌≤◌, length, IfSome, Option, refl, ◌∙◌, subst, arith}
 use Rattle.search.proofs.Doing.{located_some}
 use Rattle.search.proofs.Turns.{bounded_plus, bounded_more, span_within}
 use Rattle.search.specs.Remembered.{memory}

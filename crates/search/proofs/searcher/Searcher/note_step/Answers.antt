@@ -1,7 +1,7 @@
-use Rattle.std.proofs.Common.{◌≡◌, ℕ, ◌+◌, ◌<◌, ◌≤◌, sym, refl, ap, ◌∙◌, subst, arith, rules}
+use Rattle.std.proofs.Common.{◌≡◌, sym, ap, ◌∙◌, subst, arith}
 use Rattle.sets.specs.Places.{member}
-use Rattle.memory.specs.Steps.{Map, without, notable, after}
-use Rattle.search.specs.Remembered.{memory, lives, Kept}
+use Rattle.memory.specs.Steps.{without, notable, after}
+use Rattle.search.specs.Remembered.{lives, Kept}
 use Rattle.search.proofs.Views.{with_shelf, kept_shelf, kept_same, kept_then}
 use Rattle.search.proofs.Noting.{noted_spare, noted_full, dropped_small}
 use Rattle.search.proofs.Moves.{gone_of}

@@ -1,11 +1,10 @@
-use Rattle.std.proofs.Common.{◌≡◌, sym, refl, ap, ◌∙◌, subst, arith, rules}
+use Rattle.std.proofs.Common.{◌≡◌, sym, refl, ap, ◌∙◌, subst, arith}
 use mathlib.Core.Path.{fun_ext}
 use Rattle.std.proofs.lemmas.Bool.{both_ways}
 use Rattle.sets.specs.Members.{none, less}
 use Rattle.sets.specs.Places.{member}
-use Rattle.law.specs.Memory.{Memory, opened, Sound}
+use Rattle.law.specs.Memory.{opened, Sound}
 use Rattle.law.proofs.Calling.{sound_empty}
-use Rattle.search.specs.Remembered.{memory}
 use Rattle.search.proofs.Views.{same_memory, no_state}
 use Rattle.search.proofs.Ends.{less_below}
 use Rattle.search.proofs.searcher.Searcher.open.Goals as goal

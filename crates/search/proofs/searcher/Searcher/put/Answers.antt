@@ -1,6 +1,5 @@
-use Rattle.std.proofs.Common.{◌≡◌, ◌<◌, length, sym, refl, ap, ◌∙◌, rules}
+use Rattle.std.proofs.Common.{◌<◌, length, refl, rules}
 use Rattle.sets.specs.Places.{member}
-use Rattle.search.specs.Remembered.{subject}
 use Rattle.search.proofs.Views.{same_memory, lives_put, flag_put}
 use Rattle.search.proofs.searcher.Searcher.put.Goals as goal
 

@@ -1,4 +1,4 @@
-use Rattle.std.proofs.Common.{◌≡◌, ◌+◌, ◌-◌, ◌<◌, ◌≤◌, length, sym, refl, ap, ◌∙◌, subst, arith, rules}
+use Rattle.std.proofs.Common.{◌+◌, length, refl, arith}
 use Rattle.search.proofs.Scans.{aheaded_next}
 use Rattle.search.proofs.Turns.{bounded_plus, end_within}
 use Rattle.search.proofs.searcher.Searcher.read_ahead.Goals as goal

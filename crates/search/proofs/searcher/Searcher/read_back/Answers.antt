@@ -1,4 +1,4 @@
-use Rattle.std.proofs.Common.{◌≡◌, ◌+◌, ◌-◌, ◌<◌, ◌≤◌, length, sym, refl, ap, ◌∙◌, subst, arith, rules}
+use Rattle.std.proofs.Common.{◌-◌, length, refl, arith}
 use Rattle.search.proofs.Scans.{backed_next}
 use Rattle.search.proofs.Turns.{bounded_plus, start_within}
 use Rattle.search.proofs.searcher.Searcher.read_back.Goals as goal

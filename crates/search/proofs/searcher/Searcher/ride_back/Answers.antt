@@ -1,8 +1,8 @@
-use Rattle.std.proofs.Common.{◌≡◌, ℕ, ◌+◌, ◌-◌, ◌<◌, ◌≤◌, length, sym, refl, ap, ◌∙◌, subst, arith, rules}
+use Rattle.std.proofs.Common.{◌-◌, length, refl, subst, arith}
 use Rattle.search.specs.Counted.{tallied, known_more}
 use Rattle.sets.specs.Places.{member}
 use Rattle.theory.specs.declared.Direction.TheVariants.{Back}
-use Rattle.search.specs.Heard.{Passed, still, rode}
+use Rattle.search.specs.Heard.{Passed, rode}
 use Rattle.search.specs.Remembered.{subject}
 use Rattle.search.proofs.Rides.{riding_from, backed_from}
 use Rattle.search.proofs.Turns.{bounded_known}

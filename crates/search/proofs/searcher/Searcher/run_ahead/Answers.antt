@@ -1,4 +1,4 @@
-use Rattle.std.proofs.Common.{◌≡◌, ℕ, ◌+◌, ◌-◌, ◌<◌, ◌≤◌, length, sym, refl, ap, ◌∙◌, subst, arith, rules}
+use Rattle.std.proofs.Common.{◌+◌, ◌-◌, ◌<◌, length, sym, refl, ap, ◌∙◌, subst, arith}
 use Rattle.search.specs.Counted.{known_more}
 use Rattle.search.specs.Scanning.{RidingAhead}
 use Rattle.search.specs.Heard.{not_yet, one_more as passed-more}

@@ -1,5 +1,4 @@
-use Rattle.std.proofs.Common.{◌≡◌, ℕ, ◌+◌, ◌-◌, ◌<◌, ◌≤◌, length, sym, refl, ap, ◌∙◌, subst, arith, rules}
-use Rattle.search.specs.declared.searcher.BackRun.{BackRun}
+use Rattle.std.proofs.Common.{ℕ, ◌-◌, sym, refl, ap, ◌∙◌, subst, arith}
 use Rattle.search.specs.Counted.{known_more}
 use Rattle.search.specs.Scanning.{RidingBack}
 use Rattle.search.specs.Heard.{not_yet, one_more as passed-more}

@@ -1,4 +1,4 @@
-use Rattle.std.proofs.Common.{◌≡◌, ℕ, ◌-◌, ◌<◌, ◌≤◌, IfSome}
+use Rattle.std.proofs.Common.{ℕ, ◌-◌, ◌<◌, ◌≤◌, IfSome}
 use Rattle.sets.specs.declared.positions.PositionSet.{PositionSet}
 use Rattle.law.specs.Memory.{Memory}
 use Rattle.law.specs.Reading.{Counts as Tallies}

@@ -1,4 +1,4 @@
-use Rattle.std.proofs.Common.{◌≡◌, ◌<◌, length, sym, refl, ap, ◌∙◌, subst, arith, rules}
+use Rattle.std.proofs.Common.{◌<◌, length, sym, refl, ◌∙◌, arith}
 use Rattle.search.specs.Remembered.{memory}
 use Rattle.search.proofs.Views.{and_lt, and_not}
 use Rattle.search.proofs.Scans.{aheaded_begun, reached}

@@ -1,4 +1,4 @@
-use Rattle.std.proofs.Common.{◌≡◌, ◌-◌, ◌≤◌, length}
+use Rattle.std.proofs.Common.{◌≡◌, ◌-◌, length}
 use Rattle.search.specs.Remembered.{memory, Ready}
 use Rattle.search.specs.Scanning.{Aheaded, AheadWithin}
 use Rattle.search.proofs.searcher.Searcher.scan_ahead.Given as goal

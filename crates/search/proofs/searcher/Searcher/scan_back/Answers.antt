@@ -1,4 +1,4 @@
-use Rattle.std.proofs.Common.{◌≡◌, length, sym, refl, ap, ◌∙◌, subst, arith, rules}
+use Rattle.std.proofs.Common.{refl, arith}
 use Rattle.search.proofs.Scans.{backed_begun}
 use Rattle.search.proofs.Turns.{bounded_none}
 use Rattle.search.proofs.searcher.Searcher.scan_back.Goals as goal

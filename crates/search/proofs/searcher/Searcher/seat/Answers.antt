@@ -1,10 +1,10 @@
-use Rattle.std.proofs.Common.{◌≡◌, ℕ, ◌+◌, ◌<◌, ◌≤◌, Bool, true, false, [], ◌∷◌, Some, None, sym, refl, ap, ◌∙◌, subst, arith, rules}
+use Rattle.std.proofs.Common.{◌≡◌, ℕ, ◌+◌, ◌<◌, ◌≤◌, [], ◌∷◌, sym, refl, ap, ◌∙◌, subst, arith}
 use Rattle.std.proofs.lemmas.Bool.{both_ways, lt-ltb}
 use Rattle.sets.specs.Members.{tally}
 use Rattle.sets.specs.Places.{member, LowestFree}
 use Rattle.sets.specs.declared.positions.PositionSet.{PositionSet}
 use Rattle.sets.proofs.Known.{member_low}
-use Rattle.law.specs.Memory.{Memory, Seated, already, room, made, nowhere, held_places, without_places, with_set, steps_known}
+use Rattle.law.specs.Memory.{Memory, already, room, made, nowhere, held_places, without_places, with_set, steps_known}
 use Rattle.law.proofs.Tally.{tally_lowest}
 use Rattle.memory.specs.Live.News.{seated, dropped, met, chose}
 use Rattle.search.specs.Heard.{Heard, met_again, took_free, made_free, in_vain}

@@ -1,4 +1,4 @@
-use Rattle.std.proofs.Common.{refl, subst, arith, rules}
+use Rattle.std.proofs.Common.{refl, subst, arith}
 use Rattle.law.specs.Memory.{already}
 use Rattle.memory.specs.Live.News.{met}
 use Rattle.search.specs.Heard.{stayed, settled}

@@ -1,4 +1,4 @@
-use Rattle.std.proofs.Common.{◌≡◌, ℕ, ◌+◌, ◌-◌, ◌<◌, ◌≤◌, length, sym, refl, ap, ◌∙◌, subst, arith, rules}
+use Rattle.std.proofs.Common.{sym, refl, ◌∙◌, arith}
 use Rattle.search.specs.Remembered.{memory, subject}
 use Rattle.search.proofs.Doing.{did_refused, did_whole}
 use Rattle.search.proofs.Ends.{whole_long, whole_is, whole_none, short}
