@@ -4,15 +4,20 @@ use Rattle.script.specs.Words.{same, up_to, past, trimmed}
 use Rattle.script.specs.Numbers.{number_of}
 use Rattle.script.specs.declared.command.Kind.{Kind}
 use Rattle.script.specs.declared.command.Form.{Form}
-use Rattle.script.specs.Verbs.{verb_of}
-use Rattle.script.specs.Openings.{opening}
-use Rattle.script.specs.Sources.{Made, made, source_of}
-use Rattle.script.specs.declared.command.Opening.{Opening}
-use Rattle.script.specs.declared.verb.Verb.{Verb}
-use Rattle.script.specs.declared.verb.Verb.TheVariants.{Pattern as PatternV, Test as TestV, Seal as SealV, Class as ClassV, Passes as PassesV, Positions as PositionsV, Open as OpenV, Record as RecordV, Find as FindV, List as ListV, Whole as WholeV, Limit as LimitV, Clear as ClearV, Memory as MemoryV}
+use Rattle.script.specs.declared.command.Verb.{Verb}
+use Rattle.script.specs.declared.command.Verb.TheVariants.{Pattern as PatternV, Test as TestV, Seal as SealV, Class as ClassV, Passes as PassesV, Positions as PositionsV}
 use Rattle.script.specs.declared.command.Command.{Command}
-use Rattle.script.specs.declared.command.Command.TheVariants.{Pattern as PatternC, Test as TestC, Seal as SealC, Class as ClassC, Passes as PassesC, Positions as PositionsC, Open as OpenC, Record as RecordC, Find as FindC, List as ListC, Whole as WholeC, Limit as LimitC, Clear as ClearC, Memory as MemoryC}
+use Rattle.script.specs.declared.command.Command.TheVariants.{Pattern as PatternC, Test as TestC, Seal as SealC, Class as ClassC, Passes as PassesC, Positions as PositionsC}
 use Rattle.script.specs.declared.command.Mistake.{Mistake}
+
+abbrev pub verb_of : List ℕ → Option Verb
+verb_of w =
+    cond (same w (codes "pattern")) (Some Verb.Pattern)
+    (cond (same w (codes "test")) (Some Verb.Test)
+    (cond (same w (codes "seal")) (Some Verb.Seal)
+    (cond (same w (codes "class")) (Some Verb.Class)
+    (cond (same w (codes "passes")) (Some Verb.Passes)
+    (cond (same w (codes "positions")) (Some Verb.Positions) None)))))
 
 abbrev pub form : Kind → Bool → Form
 form k h = record { kind = k; hex = h }
@@ -33,14 +38,6 @@ pub data Asked : Type 0 where
   class : List ℕ → Asked
   passes : ℕ → ℕ → Asked
   positions : Asked
-  opened : Opening → Asked
-  recorded : Made → Asked
-  find : ℕ → Asked
-  list : ℕ → ℕ → Asked
-  whole : Asked
-  limit : ℕ → Asked
-  clear : Asked
-  memory : Asked
   wrong : Mistake → Asked
 
 -- a comment
@@ -59,25 +56,20 @@ pattern_by None text = wrong Mistake.UnknownNotation
 abbrev pub asked_pattern : List ℕ → Asked
 asked_pattern rest = pattern_by (form_of (up_to 32 rest)) (past 32 rest)
 
-abbrev pub number_or : Option ℕ → Result ℕ Mistake
-number_or (Some n) = Ok n
-number_or None = Err Mistake.BadNumber
+abbrev pub test_by : Option ℕ → Asked
+test_by (Some k) = test k
+test_by None = wrong Mistake.BadNumber
 
-abbrev pub number_behind : List ℕ → Result ℕ Mistake
-number_behind rest = number_or (number_of (trimmed rest))
+abbrev pub asked_test : List ℕ → Asked
+asked_test rest = test_by (number_of (trimmed rest))
 
-abbrev pub two_or : Option ℕ → Option ℕ → Result (ℕ × ℕ) Mistake
-two_or None n = Err Mistake.BadNumber
-two_or (Some m) None = Err Mistake.BadNumber
-two_or (Some m) (Some n) = Ok (m, n)
+abbrev pub passes_by : Option ℕ → Option ℕ → Asked
+passes_by None t = wrong Mistake.BadNumber
+passes_by (Some c) None = wrong Mistake.BadNumber
+passes_by (Some c) (Some t) = passes c t
 
-abbrev pub two_behind : List ℕ → Result (ℕ × ℕ) Mistake
-two_behind rest = two_or (number_of (up_to 32 rest)) (number_of (trimmed (past 32 rest)))
-
--- a command about an answer, or the mistake
-abbrev pub about : {A : Type 0} → (A → Asked) → Result A Mistake → Asked
-about f (Ok a) = f a
-about f (Err m) = wrong m
+abbrev pub asked_passes : List ℕ → Asked
+asked_passes rest = passes_by (number_of (up_to 32 rest)) (number_of (trimmed (past 32 rest)))
 
 -- a command of one word, behind which nothing stands
 abbrev pub bare_by : Asked → List ℕ → Asked
@@ -87,29 +79,18 @@ bare_by a (x ∷ xs) = wrong Mistake.Surplus
 abbrev pub asked_bare : Asked → List ℕ → Asked
 asked_bare a rest = bare_by a (trimmed rest)
 
-abbrev pub asked_by : Verb → List ℕ → Asked
-asked_by PatternV rest = asked_pattern rest
-asked_by TestV rest = about test (number_behind rest)
-asked_by SealV rest = asked_bare seal rest
-asked_by ClassV rest = class (trimmed rest)
-asked_by PassesV rest = about (λ mn. passes mn.0 mn.1) (two_behind rest)
-asked_by PositionsV rest = asked_bare positions rest
-asked_by OpenV rest = about opened (opening rest)
-asked_by (RecordV manner) rest = about recorded (source_of manner rest)
-asked_by FindV rest = about find (number_behind rest)
-asked_by ListV rest = about (λ mn. list mn.0 mn.1) (two_behind rest)
-asked_by WholeV rest = asked_bare whole rest
-asked_by LimitV rest = about limit (number_behind rest)
-asked_by ClearV rest = asked_bare clear rest
-asked_by MemoryV rest = asked_bare memory rest
-
-abbrev pub asked_if : Option Verb → List ℕ → Asked
-asked_if (Some verb) rest = asked_by verb rest
-asked_if None rest = wrong Mistake.UnknownCommand
+abbrev pub asked_by : Option Verb → List ℕ → Asked
+asked_by (Some PatternV) rest = asked_pattern rest
+asked_by (Some TestV) rest = asked_test rest
+asked_by (Some SealV) rest = asked_bare seal rest
+asked_by (Some ClassV) rest = class (trimmed rest)
+asked_by (Some PassesV) rest = asked_passes rest
+asked_by (Some PositionsV) rest = asked_bare positions rest
+asked_by None rest = wrong Mistake.UnknownCommand
 
 -- what a line asks for: its first word says which command, and the rest, raw, what it is about
 abbrev pub asked : List ℕ → Asked
-asked line = cond (passed_over line) nothing (asked_if (verb_of (up_to 32 (trimmed line))) (past 32 line))
+asked line = cond (passed_over line) nothing (asked_by (verb_of (up_to 32 (trimmed line))) (past 32 line))
 
 abbrev pub contents : Command → Asked
 contents (PatternC f text) = pattern f text.now
@@ -118,14 +99,6 @@ contents SealC = seal
 contents (ClassC text) = class text.now
 contents (PassesC c t) = passes c t
 contents PositionsC = positions
-contents (OpenC o) = opened o
-contents (RecordC s) = recorded (made s)
-contents (FindC from) = find from
-contents (ListC from entries) = list from entries
-contents WholeC = whole
-contents (LimitC k) = limit k
-contents ClearC = clear
-contents MemoryC = memory
 
 abbrev pub told_command : Result Command Mistake → Asked
 told_command (Ok c) = contents c

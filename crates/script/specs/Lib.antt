@@ -1,9 +1,6 @@
 pub mod Commands
 pub mod Hex
 pub mod Numbers
-pub mod Openings
 pub mod Sheets
-pub mod Sources
 pub mod Symbols
-pub mod Verbs
 pub mod Words

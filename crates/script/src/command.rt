@@ -1,11 +1,8 @@
 // A line of a script as a command.
 ghost use Rattle.std.specs.Prelude.{◌≡◌};
-ghost use Rattle.script.specs.Commands.{form_of, passed_over, asked_pattern, number_behind, two_behind, asked_bare, asked_by, asked, contents, told_command, told};
+ghost use Rattle.script.specs.Commands.{verb_of, form_of, passed_over, pattern_by, asked_pattern, asked_test, asked_passes, asked_bare, asked, contents, told_command, told};
 
 use crate::number::number;
-use crate::opening::parse_opening;
-use crate::source::parse_source;
-use crate::verb::{Verb, verb_of};
 use crate::words::{before, behind, is_word, trimmed};
 
 // The notation of a pattern, or the kind of a record.
@@ -22,36 +19,14 @@ pub struct Form {
     pub hex: bool,
 }
 
-// A shelf for known steps; a dense one is lent so many bytes.
 #[derive(Clone, Copy)]
-pub enum ShelfChoice {
-    Dense(u64),
-    Pair,
-}
-
-#[derive(Clone, Copy)]
-pub enum PolicyChoice {
-    Flush,
-    Clock,
-}
-
-// What a searcher is opened with.
-#[derive(Clone, Copy)]
-pub struct Opening {
-    pub shelf: ShelfChoice,
-    pub policy: PolicyChoice,
-}
-
-// What a record is made of: a text, digits or events of the line, so many copies of them, or a file.
-#[derive(Clone, Copy)]
-pub enum Source<'a> {
-    Text(&'a [u8]),
-    Hex(&'a [u8]),
-    HexRepeat(u64, &'a [u8]),
-    File(&'a [u8]),
-    Events(&'a [u8]),
-    EventsRepeat(u64, &'a [u8]),
-    EventsFile(&'a [u8]),
+pub enum Verb {
+    Pattern,
+    Test,
+    Seal,
+    Class,
+    Passes,
+    Positions,
 }
 
 // What a line asks for; texts stay bytes of the line.
@@ -65,16 +40,6 @@ pub enum Command<'a> {
     // A class and a test.
     Passes(u64, u64),
     Positions,
-    Open(Opening),
-    Record(Source<'a>),
-    // From which place on.
-    Find(u64),
-    // From which place on, and into how many entries.
-    List(u64, u64),
-    Whole,
-    Limit(u64),
-    Clear,
-    Memory,
 }
 
 // What can be wrong with a line.
@@ -82,11 +47,28 @@ pub enum Command<'a> {
 pub enum Mistake {
     UnknownCommand,
     UnknownNotation,
-    UnknownShelf,
-    UnknownPolicy,
     BadNumber,
-    NoPath,
     Surplus,
+}
+
+fn verb_of(word: &[u8]) -> Option<Verb>
+    ensures { result ≡ verb_of word.now }
+{
+    if is_word(word, b"pattern") {
+        Some(Verb::Pattern)
+    } else if is_word(word, b"test") {
+        Some(Verb::Test)
+    } else if is_word(word, b"seal") {
+        Some(Verb::Seal)
+    } else if is_word(word, b"class") {
+        Some(Verb::Class)
+    } else if is_word(word, b"passes") {
+        Some(Verb::Passes)
+    } else if is_word(word, b"positions") {
+        Some(Verb::Positions)
+    } else {
+        None
+    }
 }
 
 fn form_of(word: &[u8]) -> Option<Form>
@@ -134,23 +116,23 @@ fn parse_pattern(rest: &[u8]) -> Result<Command<'_>, Mistake>
     }
 }
 
-fn parse_number(rest: &[u8]) -> Result<u64, Mistake>
-    ensures { result ≡ number_behind rest.now }
+fn parse_test(rest: &[u8]) -> Result<Command<'_>, Mistake>
+    ensures { told_command result ≡ asked_test rest.now }
 {
     match number(trimmed(rest)) {
-        Some(n) => Ok(n),
+        Some(k) => Ok(Command::Test(k)),
         None => Err(Mistake::BadNumber),
     }
 }
 
-fn parse_two(rest: &[u8]) -> Result<(u64, u64), Mistake>
-    ensures { result ≡ two_behind rest.now }
+fn parse_passes(rest: &[u8]) -> Result<Command<'_>, Mistake>
+    ensures { told_command result ≡ asked_passes rest.now }
 {
     match (
         number(before(rest, b' ')),
         number(trimmed(behind(rest, b' '))),
     ) {
-        (Some(m), Some(n)) => Ok((m, n)),
+        (Some(class), Some(test)) => Ok(Command::Passes(class, test)),
         _ => Err(Mistake::BadNumber),
     }
 }
@@ -166,33 +148,6 @@ fn parse_bare<'a>(command: Command<'a>, rest: &[u8]) -> Result<Command<'a>, Mist
     }
 }
 
-fn parse_verb(verb: Verb, rest: &[u8]) -> Result<Command<'_>, Mistake>
-    ensures { told_command result ≡ asked_by verb rest.now }
-{
-    match verb {
-        Verb::Pattern => parse_pattern(rest),
-        Verb::Test => Ok(Command::Test(parse_number(rest)?)),
-        Verb::Seal => parse_bare(Command::Seal, rest),
-        Verb::Class => Ok(Command::Class(trimmed(rest))),
-        Verb::Passes => {
-            let (class, test) = parse_two(rest)?;
-            Ok(Command::Passes(class, test))
-        }
-        Verb::Positions => parse_bare(Command::Positions, rest),
-        Verb::Open => Ok(Command::Open(parse_opening(rest)?)),
-        Verb::Record(manner) => Ok(Command::Record(parse_source(manner, rest)?)),
-        Verb::Find => Ok(Command::Find(parse_number(rest)?)),
-        Verb::List => {
-            let (from, entries) = parse_two(rest)?;
-            Ok(Command::List(from, entries))
-        }
-        Verb::Whole => parse_bare(Command::Whole, rest),
-        Verb::Limit => Ok(Command::Limit(parse_number(rest)?)),
-        Verb::Clear => parse_bare(Command::Clear, rest),
-        Verb::Memory => parse_bare(Command::Memory, rest),
-    }
-}
-
 // What the line asks for, if it asks for anything.
 pub fn parse_line(line: &[u8]) -> Result<Option<Command<'_>>, Mistake>
     ensures { told result ≡ asked line.now }
@@ -200,8 +155,14 @@ pub fn parse_line(line: &[u8]) -> Result<Option<Command<'_>>, Mistake>
     if is_passed_over(line) {
         return Ok(None);
     }
+    let rest = behind(line, b' ');
     match verb_of(before(trimmed(line), b' ')) {
-        Some(verb) => Ok(Some(parse_verb(verb, behind(line, b' '))?)),
+        Some(Verb::Pattern) => Ok(Some(parse_pattern(rest)?)),
+        Some(Verb::Test) => Ok(Some(parse_test(rest)?)),
+        Some(Verb::Seal) => Ok(Some(parse_bare(Command::Seal, rest)?)),
+        Some(Verb::Class) => Ok(Some(Command::Class(trimmed(rest)))),
+        Some(Verb::Passes) => Ok(Some(parse_passes(rest)?)),
+        Some(Verb::Positions) => Ok(Some(parse_bare(Command::Positions, rest)?)),
         None => Err(Mistake::UnknownCommand),
     }
 }

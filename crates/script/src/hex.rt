@@ -4,7 +4,7 @@ ghost use Rattle.script.specs.Hex.{hex_of, pair_of, ReadAs};
 
 use std::alloc::AllocError;
 
-pub(crate) fn hex_value(byte: u8) -> Option<u8>
+pub fn hex_value(byte: u8) -> Option<u8>
     ensures is { result ≡ hex_of byte }
     ensures small { IfSome result (λ v. v < 16) }
 {

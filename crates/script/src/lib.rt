@@ -4,9 +4,6 @@
 pub mod command;
 pub mod hex;
 pub mod number;
-mod opening;
 pub mod sheet;
-mod source;
 pub mod symbol;
-mod verb;
 pub mod words;

@@ -3,7 +3,7 @@ ghost use Rattle.std.specs.Prelude.{◌≡◌, ◌≤◌, length};
 ghost use Rattle.script.specs.Words.{up_to, past, blank, same, ends, trimmed as trimmedText};
 
 // How many bytes stand before the first that is `byte`, or all of them.
-pub(crate) fn index_of(text: &[u8], byte: u8) -> usize
+pub fn index_of(text: &[u8], byte: u8) -> usize
     ensures is { result ≡ length (up_to byte text.now) }
     ensures within { result ≤ length text.now }
 {
