@@ -1,0 +1,4 @@
+pub mod Commands
+pub mod Openings
+pub mod Sources
+pub mod Verbs
