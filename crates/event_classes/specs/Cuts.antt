@@ -1,6 +1,6 @@
 -- The classes of events under a draft's tests: the tests' ranges cut the codes, and a class is what lies between two cuts.
 use Rattle.std.specs.Prelude.{◌≡◌, ℕ, ◌+◌, ◌-◌, ◌<◌, Bool, cond, ◌&&◌, ◌⊎◌, List, [], ◌∷◌, length, count_by, ◌==◌, nat_le, nat_lt, slice_index}
-use Rattle.std.specs.List.{AllByRecursion as All}
+use Rattle.std.specs.List.{AllByRecursion}
 use Rattle.symbols.specs.declared.EventTest.{EventTest}
 use Rattle.symbols.specs.Tests.{passes_code}
 use Rattle.alphabet.specs.Asked.{asked}
@@ -47,7 +47,7 @@ event_accepts ts c k = nat_lt c (event_classes ts) && event_passes ts k (lowest_
 -- each is below all behind it
 abbrev pub Ascending : List ℕ → Type 0
 Ascending [] = Unit {0}
-Ascending (x ∷ xs) = All (λ y. x < y) xs × Ascending xs
+Ascending (x ∷ xs) = AllByRecursion (λ y. x < y) xs × Ascending xs
 
 abbrev pub Among : ℕ → List ℕ → Type 0
 Among x [] = ⊥

@@ -1,7 +1,7 @@
 -- Ascending rows of cuts, how many of them are at or below a code, and which they are.
 use Rattle.std.specs.Prelude.{◌≡◌, ℕ, zero, suc, ◌+◌, ◌-◌, ◌*◌, ◌<◌, ◌≤◌, cond, ◌&&◌, leb, ◌⊎◌, List, [], ◌∷◌, length, ◌==◌, ◌≢◌, nat_le, nat_lt, slice_index, slice_index_or, refl}
 use Rattle.std.proofs.Common.{sym, ap, ◌∙◌, inl, inr, ⊎_elim, arith, zero-add, one-add}
-use Rattle.std.specs.List.{AllByRecursion as All, insert}
+use Rattle.std.specs.List.{AllByRecursion, insert}
 use Rattle.symbols.specs.declared.EventTest.{EventTest}
 use Rattle.std.proofs.lemmas.List.Sums.{sum_by-cons, count_by-le-length}
 use Rattle.std.proofs.ByRecursion.{All-weaker, All-get_or}
@@ -14,7 +14,7 @@ count_yes code y ys l = sum_by-cons (λ x. cond (nat_le x code) 1 0) y ys ∙ ap
 count_no : (code y : ℕ) (ys : List ℕ) → code < y → at_or_below code (y ∷ ys) ≡ at_or_below code ys
 count_no code y ys l = sum_by-cons (λ x. cond (nat_le x code) 1 0) y ys ∙ ap (λ n. n + at_or_below code ys) (cond-false (nat_le y code) 1 0 (lt-leb y code l)) ∙ zero-add (at_or_below code ys)
 
-count_none : (code : ℕ) (ys : List ℕ) → All (λ y. code < y) ys → at_or_below code ys ≡ 0
+count_none : (code : ℕ) (ys : List ℕ) → AllByRecursion (λ y. code < y) ys → at_or_below code ys ≡ 0
 count_none code [] h = refl
 count_none code (y ∷ ys) h = count_no code y ys h.0 ∙ count_none code ys h.1
 
@@ -31,7 +31,7 @@ count_below code (y ∷ ys) h (suc i) l =
     (λ (u : y ≤ code). count_below code ys h.1 i (omega (arith, count_yes code y ys u)))
     (cases_lt code y)
 
-all_at : (y : ℕ) (ys : List ℕ) → All (λ z. y < z) ys → (i : ℕ) → i < length ys → y < slice_index ys i
+all_at : (y : ℕ) (ys : List ℕ) → AllByRecursion (λ z. y < z) ys → (i : ℕ) → i < length ys → y < slice_index ys i
 all_at y ys h i l = All-get_or (λ z. y < z) ys i 0 l h
 
 pub count_above : (code : ℕ) (cs : List ℕ) → Ascending cs → (i : ℕ) → at_or_below code cs ≤ i → i < length cs → code < slice_index cs i
@@ -98,7 +98,7 @@ placed_more : (x y : ℕ) (ys : List ℕ) → y < x → placed x (y ∷ ys) ≡ 
 placed_more x y ys l =
     cond-false (nat_lt x y) (x ∷ y ∷ ys) (cond (x == y) (y ∷ ys) (y ∷ placed x ys)) (le-ltb x y (omega arith)) ∙ cond-false (x == y) (y ∷ ys) (y ∷ placed x ys) (ne_eqb x y (λ e. omega arith))
 
-placed_all : (z x : ℕ) (cs : List ℕ) → z < x → All (λ y. z < y) cs → All (λ y. z < y) (placed x cs)
+placed_all : (z x : ℕ) (cs : List ℕ) → z < x → AllByRecursion (λ y. z < y) cs → AllByRecursion (λ y. z < y) (placed x cs)
 placed_all z x [] l h = (l, tt)
 placed_all z x (y ∷ ys) l h =
     ⊎_elim (λ (e : x ≡ y). rw (placed_same x y ys e) h)
@@ -151,7 +151,7 @@ pub rank_below : (code : ℕ) (cs : List ℕ) → Ascending cs → (i : ℕ) →
 rank_below code cs h i l = ⊎_elim (λ (v : i < at_or_below code cs). absurd (omega (arith, count_below code cs h i v))) (λ v. v) (cases_lt i (at_or_below code cs))
 
 -- a cut that is there stays, and one that is new comes behind those at or below it
-all_among : (y x : ℕ) (ys : List ℕ) → All (λ z. y < z) ys → Among x ys → y < x
+all_among : (y x : ℕ) (ys : List ℕ) → AllByRecursion (λ z. y < z) ys → Among x ys → y < x
 all_among y x [] h m = absurd m
 all_among y x (z ∷ ys) h m = ⊎_elim (λ (e : x ≡ z). omega (arith, h.0)) (λ (n : Among x ys). all_among y x ys h.1 n) m
 
