@@ -12,7 +12,7 @@ use Rattle.theory.specs.Machine.{Machine, Lawful, rule}
 use Rattle.theory.specs.Masks.{masks}
 use Rattle.theory.proofs.Bit.{same_members}
 use Rattle.theory.proofs.Masks.{masks_lawful, within}
-use Rattle.theory.proofs.Widths.{alike as alike-step}
+use Rattle.theory.proofs.Widths.{alike as alike_step}
 use Rattle.theory.proofs.Answers.{numbered}
 use Rattle.law.specs.Subject.{Proper}
 use Rattle.automaton.specs.Subjects.{on_sets, sealed_subject}
@@ -56,5 +56,5 @@ proper alphabet s kept =
       small = λ a f. omega (arith, kept.below a f, kept.few);
       alike = λ d S a b fa fb e.
           lifted (masks 64 passes P) d S a b
-          (alike-step passes P (masks 64 passes P) l same_members a b (λ p. sym (kept.agree p a fa) ∙ ap (λ c. alphabet.accepts s.alphabet c p) e ∙ kept.agree p b fb) d S.bits);
+          (alike_step passes P (masks 64 passes P) l same_members a b (λ p. sym (kept.agree p a fa) ∙ ap (λ c. alphabet.accepts s.alphabet c p) e ∙ kept.agree p b fb) d S.bits);
     }

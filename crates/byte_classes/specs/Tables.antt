@@ -1,5 +1,5 @@
 -- What the tables of the classes of bytes hold, and how they are made.
-use Rattle.std.specs.Prelude.{◌≡◌, ℕ, ◌+◌, ◌*◌, ◌<◌, ◌≤◌, cond, List, get_or, fold, ◌≢◌, slice_index, slice_index_or}
+use Rattle.std.specs.Prelude.{◌≡◌, ℕ, ◌+◌, ◌*◌, ◌<◌, ◌≤◌, cond, List, fold, ◌≢◌, slice_index, slice_index_or}
 use Rattle.sets.specs.Members.{Members, shared, below}
 use Rattle.sets.specs.Positions.{holds, width}
 use Rattle.symbols.specs.declared.ByteTest.{ByteTest}
@@ -32,5 +32,5 @@ row ts b = fold (λ n t. n * 2 + cond (passes_byte t b) 1 0) 0 ts
 -- r is the first place at which rows has what it has at b
 pub record FirstLike (rows : List ℕ) (b r : ℕ) : Type 0 where
   pub low : r ≤ b
-  pub like : get_or rows r 0 ≡ slice_index rows b
+  pub like : slice_index rows r ≡ slice_index rows b
   pub first : (a : ℕ) → a < r → slice_index rows a ≢ slice_index rows b

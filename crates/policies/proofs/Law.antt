@@ -7,7 +7,7 @@ use Rattle.sets.specs.Members.{Members, except, less}
 use Rattle.memory.specs.Live.{May}
 use Rattle.policies.specs.Round.{next, others, Way, way, going, round, only}
 use Rattle.policies.specs.Chosen.{ahead, cleared, NearestUnmarked, NearestOfAll, Chosen}
-use Rattle.policies.proofs.Ways.{past, cleared as mark-cleared, stopped, ended, some_not, others_may, may_others, only_is, only_has}
+use Rattle.policies.proofs.Ways.{past, cleared as mark_cleared, stopped, ended, some_not, others_may, may_others, only_is, only_has}
 
 -- one place further
 ahead_here : (at : ℕ) → ahead at at ≡ 0
@@ -201,7 +201,7 @@ once may (suc n) marks at low ha hn =
     (λ (m : may at ≡ true).
     ⊎_elim
     (λ (b : marks at ≡ true).
-    subst (λ (w : Way). Once may marks at (suc n) w) (sym (mark-cleared may n marks at m b))
+    subst (λ (w : Way). Once may marks at (suc n) w) (sym (mark_cleared may n marks at m b))
     (once_cleared may marks at n (going may n (except marks at) (next at)) low ha hn m b (once may n (except marks at) (next at) low (next_low at) (omega arith))))
     (λ (b : marks at ≡ false). subst (λ (w : Way). Once may marks at (suc n) w) (sym (stopped may n marks at m b)) (once_here may marks at n m b))
     (cases_Bool (marks at)))
@@ -226,9 +226,9 @@ found_first may (suc a) b marks at p e =
     (λ (m : may at ≡ true).
     ⊎_elim
     (λ (q : marks at ≡ true).
-    mark-cleared may (a + b) marks at m q
-    ∙ found_first may a b (except marks at) (next at) p (sym (ap (λ w. w.found) (mark-cleared may a marks at m q)) ∙ e)
-    ∙ sym (mark-cleared may a marks at m q))
+    mark_cleared may (a + b) marks at m q
+    ∙ found_first may a b (except marks at) (next at) p (sym (ap (λ w. w.found) (mark_cleared may a marks at m q)) ∙ e)
+    ∙ sym (mark_cleared may a marks at m q))
     (λ (q : marks at ≡ false). stopped may (a + b) marks at m q ∙ sym (stopped may a marks at m q))
     (cases_Bool (marks at)))
     (λ (m : may at ≡ false).
@@ -247,9 +247,9 @@ none_first may (suc a) b marks at e =
     (λ (m : may at ≡ true).
     ⊎_elim
     (λ (q : marks at ≡ true).
-    mark-cleared may (a + b) marks at m q
-    ∙ none_first may a b (except marks at) (next at) (sym (ap (λ w. w.found) (mark-cleared may a marks at m q)) ∙ e)
-    ∙ ap (λ w. going may b w.marks (far a (next at))) (sym (mark-cleared may a marks at m q)))
+    mark_cleared may (a + b) marks at m q
+    ∙ none_first may a b (except marks at) (next at) (sym (ap (λ w. w.found) (mark_cleared may a marks at m q)) ∙ e)
+    ∙ ap (λ w. going may b w.marks (far a (next at))) (sym (mark_cleared may a marks at m q)))
     (λ (q : marks at ≡ false). absurd (some_not at (sym e ∙ ap (λ w. w.found) (stopped may a marks at m q))))
     (cases_Bool (marks at)))
     (λ (m : may at ≡ false).

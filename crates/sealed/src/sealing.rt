@@ -5,7 +5,7 @@ ghost use Rattle.theory.specs.Masks.{ahead_set, back_set, common};
 ghost use Rattle.sealed.specs.Tables.{following};
 ghost use Rattle.byte_classes.specs.Own.{byte_tests};
 ghost use Rattle.event_classes.specs.Own.{event_tests};
-ghost use Rattle.reader.specs.Drafts.{tests_of, codes_of as draft-codes};
+ghost use Rattle.reader.specs.Drafts.{tests_of, codes_of as draft_codes};
 ghost use Rattle.sealed.specs.Plans.{codes_of, tree_of, positions_of, sealable, by_class, SealedOf};
 
 use crate::plan::Plan;
@@ -118,16 +118,16 @@ impl<A: Alphabet> Sealed<A> {
 
 pub fn seal_bytes(draft: Draft<ByteTest>) -> Sealed<ByteClasses>
     ensures tests { byte_tests result.alphabet ≡ tests_of draft }
-    ensures codes { codes_of result.plan ≡ sealable (draft-codes draft) }
-    ensures pattern { SealedOf (draft-codes draft) (tree_of result.plan) }
+    ensures codes { codes_of result.plan ≡ sealable (draft_codes draft) }
+    ensures pattern { SealedOf (draft_codes draft) (tree_of result.plan) }
 {
     Sealed::of(ByteClasses::of(draft.tests()), draft.codes())
 }
 
 pub fn seal_events(draft: Draft<EventTest>) -> Sealed<EventCuts>
     ensures tests { event_tests result.alphabet ≡ tests_of draft }
-    ensures codes { codes_of result.plan ≡ sealable (draft-codes draft) }
-    ensures pattern { SealedOf (draft-codes draft) (tree_of result.plan) }
+    ensures codes { codes_of result.plan ≡ sealable (draft_codes draft) }
+    ensures pattern { SealedOf (draft_codes draft) (tree_of result.plan) }
 {
     Sealed::of(EventCuts::of(draft.tests()), draft.codes())
 }

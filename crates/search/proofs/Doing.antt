@@ -11,7 +11,7 @@ use Rattle.theory.specs.Spans.{Finds}
 use Rattle.law.specs.Subject.{Proper, Word}
 use Rattle.law.specs.Memory.{Memory}
 use Rattle.law.specs.Reading.{both}
-use Rattle.law.specs.Calls.{Find, Lists, Listed as Lists-found, Whole, Request, Search, Found, Told, Searched, Refused as Refuses, Answered, Answer as Reply}
+use Rattle.law.specs.Calls.{Find, Lists, Listed as ListsFound, Whole, Request, Search, Found, Told, Searched, Refused as Refuses, Answered, Answer as Reply}
 use Rattle.law.proofs.Calling.{calling, says}
 use Rattle.automaton.specs.declared.automaton.Automaton.{Ghosts as AutomatonMeaning}
 use Rattle.search.specs.declared.searcher.Searcher.{Searcher}
@@ -73,8 +73,8 @@ module _ {M S P Sym : Type 0} (automaton : AutomatonMeaning M Sym) (shelf : Shel
       (subst (λ z. Answered (automaton.subject z.now) (memory shelf policy s) (Search (Whole r)) (memory shelf policy n) (Searched (Told y) (tallied ahead.counts))) e
       (whole_answered (subject automaton n) (memory shelf policy s) (memory shelf policy n) r y (tallied ahead.counts) l is w.walk))
 
-  pub did_listed : (s n : Searcher M S P) (r : List Sym) (entries f : ℕ) (xs : List Span) (ending : Ending) → Ready automaton shelf policy s → n.automaton ≡ s.automaton → length r ≤ 1048576 → f ≤ length r → Listed automaton shelf policy (memory shelf policy s) r entries f xs ending n → Did automaton shelf policy s (Search (Lists r f entries)) n (Searched (Lists-found xs ending.rest) (tallied ending.counts))
+  pub did_listed : (s n : Searcher M S P) (r : List Sym) (entries f : ℕ) (xs : List Span) (ending : Ending) → Ready automaton shelf policy s → n.automaton ≡ s.automaton → length r ≤ 1048576 → f ≤ length r → Listed automaton shelf policy (memory shelf policy s) r entries f xs ending n → Did automaton shelf policy s (Search (Lists r f entries)) n (Searched (ListsFound xs ending.rest) (tallied ending.counts))
   did_listed s n r entries f xs ending ready e l h w =
-      did_as s n (Search (Lists r f entries)) (Searched (Lists-found xs ending.rest) (tallied ending.counts)) ready w.ready
-      (subst (λ y. Answered (automaton.subject y.now) (memory shelf policy s) (Search (Lists r f entries)) (memory shelf policy n) (Searched (Lists-found xs ending.rest) (tallied ending.counts))) e
+      did_as s n (Search (Lists r f entries)) (Searched (ListsFound xs ending.rest) (tallied ending.counts)) ready w.ready
+      (subst (λ y. Answered (automaton.subject y.now) (memory shelf policy s) (Search (Lists r f entries)) (memory shelf policy n) (Searched (ListsFound xs ending.rest) (tallied ending.counts))) e
       (list_answered (subject automaton n) (memory shelf policy s) (memory shelf policy n) r f entries xs ending.rest (tallied ending.counts) l h w.written_is w.rest_is w.walk))

@@ -4,7 +4,7 @@ use Rattle.sets.specs.declared.positions.PositionSet.{PositionSet}
 use Rattle.theory.specs.declared.Span.{Span}
 use Rattle.law.specs.Subject.{Subject}
 use Rattle.law.specs.Memory.{Memory, opened}
-use Rattle.law.specs.Law.{Lawful, searches, outcome, replies as law-replies}
+use Rattle.law.specs.Law.{Lawful, searches, outcome, replies as law_replies}
 use Rattle.law.specs.Calls.{Request, Search, Find, Lists, Whole, Limit, Clear, Answer as Reply, Series}
 use Rattle.search.specs.declared.answer.Answer.{Answer}
 use Rattle.series.specs.declared.series.Call.{Call}
@@ -53,7 +53,7 @@ behind = each (λ part a. drop (written a) part)
 
 -- the same searches in order come to the same findings, refusals and reads
 abbrev pub Same : {Sym : Type 0} → List (Request Sym) → List Reply → List (Request Sym) → List Reply → Type 0
-Same cs rs ds ts = searches cs ≡ searches ds → map outcome (law-replies cs rs) ≡ map outcome (law-replies ds ts)
+Same cs rs ds ts = searches cs ≡ searches ds → map outcome (law_replies cs rs) ≡ map outcome (law_replies ds ts)
 
 -- whatever other series keeps the law, on any shelf, with any policy, limits and clears: the same searches in order
 -- come to the same findings, refusals and reads

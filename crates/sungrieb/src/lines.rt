@@ -16,8 +16,7 @@ pub fn answer_input<A: Answers>(
     answers: &mut A,
     out: &mut Out,
 ) -> Result<(), Failure> {
-    let input = BufReader::new(rt.alloc(), rt.stdin()).map_err(Failure::Input)?;
-    answer_lines(rt, input, answers, out)
+    answer_lines(rt, rt.stdin(), answers, out)
 }
 
 pub fn answer_file<A: Answers>(
@@ -27,23 +26,21 @@ pub fn answer_file<A: Answers>(
     out: &mut Out,
 ) -> Result<(), Failure> {
     match fs::open(rt, path.as_str()) {
-        Ok(file) => {
-            let input = BufReader::new(rt.alloc(), file).map_err(Failure::Input)?;
-            match answer_lines(rt, input, answers, out) {
-                Err(Failure::Input(error)) => Err(Failure::File(path.clone()?, error)),
-                answered => answered,
-            }
-        }
+        Ok(file) => match answer_lines(rt, file, answers, out) {
+            Err(Failure::Input(error)) => Err(Failure::File(path.clone()?, error)),
+            answered => answered,
+        },
         Err(error) => Err(Failure::File(path.clone()?, error)),
     }
 }
 
 fn answer_lines<R: Read + Drop, A: Answers>(
     rt: &HostRuntime,
-    mut input: BufReader<R>,
+    input: R,
     answers: &mut A,
     out: &mut Out,
 ) -> Result<(), Failure> {
+    let mut input = BufReader::new(rt.alloc(), input).map_err(Failure::Input)?;
     let mut line = Vec::new(rt.alloc());
     for number in 1..u64::MAX {
         line.clear();

@@ -3,7 +3,7 @@ use Rattle.std.specs.Prelude.{◌≡◌, ℕ, ◌<◌, ◌≤◌, true, List, []
 use Prim.Native.String.{String}
 use Rattle.refusal.specs.declared.Cause.TheVariants.{FromPastEnd, LimitTooLarge}
 use Rattle.theory.specs.declared.Span.{Span}
-use Rattle.reader.specs.Trials.{Trials as Reading-trials}
+use Rattle.reader.specs.Trials.{Trials as ReadingTrials}
 use Rattle.law.specs.Subject.{Subject}
 use Rattle.law.specs.Memory.{Memory, opened}
 use Rattle.law.specs.Calls.{Query, Find, Lists, Whole, Request, Search, Limit, Found, Listed, Told, Answer, Searched, Dropped, refusal, Series}
@@ -31,7 +31,7 @@ counted known built plain dropped = Searched (Found (Some (span 0 3))) (record {
 
 pub record Trials : Type 0 where
   -- texts that are refused, by number and place
-  pub reading : Reading-trials
+  pub reading : ReadingTrials
   -- the longest of the leftmost words, whatever the order of the branches
   pub longest : found_in "a|ab" "xab" ≡ finds (Found (Some (span 1 3))) 5
   pub leftmost : found_in "abcd|c" "abcd" ≡ finds (Found (Some (span 0 4))) 8

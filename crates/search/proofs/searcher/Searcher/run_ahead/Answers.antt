@@ -1,7 +1,7 @@
 use Rattle.std.proofs.Common.{◌+◌, ◌-◌, ◌<◌, length, sym, refl, ap, ◌∙◌, subst, arith}
 use Rattle.search.specs.Counted.{known_more}
 use Rattle.search.specs.Scanning.{RidingAhead}
-use Rattle.search.specs.Heard.{not_yet, one_more as passed-more}
+use Rattle.search.specs.Heard.{not_yet, one_more as passed_more}
 use Rattle.search.proofs.Views.{and_lt, and_not}
 use Rattle.search.proofs.Rides.{none_more, one_more, riding_ahead_next}
 use Rattle.search.proofs.Turns.{end_within}
@@ -40,5 +40,5 @@ loop-class-preserved g c =
           (known_more k (at - first)) (known_more k (at + 1 - first)) c.index-row-at.result c.class_of-class.result next ends
           refl lt (and_not _ _ c.loop-class-test.ensures) c.index-row-at.is c.class_of-class.ensures.fits c.class_of-class.ensures.is known refl c.has.ensures c.end_at-end.ensures
           (one_more k (at - first) (at + 1 - first) (omega (arith, v.0))) (v.4 m from k h),
-      passed-more at at c.index-row-at.result v.5 (refl, refl) c.index-row-at.is (ap (g.S.Shelf.steps s.shelf c.loop-class.place) (sym c.class_of-class.ensures.is) ∙ sym known) c.with-met.ensures,
+      passed_more at at c.index-row-at.result v.5 (refl, refl) c.index-row-at.is (ap (g.S.Shelf.steps s.shelf c.loop-class.place) (sym c.class_of-class.ensures.is) ∙ sym known) c.with-met.ensures,
     )

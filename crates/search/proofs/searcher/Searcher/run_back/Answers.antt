@@ -1,7 +1,7 @@
 use Rattle.std.proofs.Common.{ℕ, ◌-◌, sym, refl, ap, ◌∙◌, subst, arith}
 use Rattle.search.specs.Counted.{known_more}
 use Rattle.search.specs.Scanning.{RidingBack}
-use Rattle.search.specs.Heard.{not_yet, one_more as passed-more}
+use Rattle.search.specs.Heard.{not_yet, one_more as passed_more}
 use Rattle.search.proofs.Rides.{none_more, one_more, riding_next}
 use Rattle.search.proofs.Turns.{start_within}
 use Rattle.search.proofs.searcher.Searcher.run_back.Goals as goal
@@ -39,5 +39,5 @@ loop-at-preserved g c =
           (known_more k (first - at)) (known_more k (first - i)) c.index-row-at.result c.class_of-class.result next begins
           (omega arith) (omega (arith, v.1, c.requires.within)) c.index-row-at.is c.class_of-class.ensures.fits c.class_of-class.ensures.is known refl c.has.ensures c.start_at-start.ensures
           (one_more k (first - at) (first - i) (omega (arith, v.1))) (v.4 m k h),
-      passed-more at i c.index-row-at.result v.5 (omega (arith, v.1), refl) c.index-row-at.is (ap (g.S.Shelf.steps s.shelf c.loop-at.place) (sym c.class_of-class.ensures.is) ∙ sym known) c.with-met.ensures,
+      passed_more at i c.index-row-at.result v.5 (omega (arith, v.1), refl) c.index-row-at.is (ap (g.S.Shelf.steps s.shelf c.loop-at.place) (sym c.class_of-class.ensures.is) ∙ sym known) c.with-met.ensures,
     )
