@@ -12,6 +12,7 @@ use Rattle.law.specs.Subject.{Proper, Word}
 use Rattle.law.specs.Memory.{Memory}
 use Rattle.law.specs.Reading.{both}
 use Rattle.law.specs.Calls.{Find, Lists, Listed as ListsFound, Whole, Request, Search, Found, Told, Searched, Refused as Refuses, Answered, Answer as Reply}
+use Rattle.law.specs.Law.{ByWords}
 use Rattle.law.proofs.Calling.{calling, says}
 use Rattle.automaton.specs.declared.automaton.Automaton.{Ghosts as AutomatonMeaning}
 use Rattle.search.specs.declared.searcher.Searcher.{Searcher}
@@ -29,21 +30,19 @@ use Rattle.search.proofs.Scans.{ready_next}
 use Rattle.search.proofs.Ends.{find_some, walk_some, find_answered, list_answered, whole_answered}
 
 module _ {M S P Sym : Type 0} (automaton : AutomatonMeaning M Sym) (shelf : ShelfMeaning S) (policy : PolicyMeaning P) (laws : (m : M) → Proper (automaton.subject m)) where
-  did_as : (s n : Searcher M S P) (c : Request Sym) (a : Reply) → Ready automaton shelf policy s → Ready automaton shelf policy n → Answered (subject automaton s) (memory shelf policy s) c (memory shelf policy n) a → Did automaton shelf policy s c n a
-  did_as s n c a ready next w =
-      record {
-        answered = w;
-        words = (calling (subject automaton s) (laws s.automaton.now) (memory shelf policy s) c (memory shelf policy n) a ready.sound w).words;
-        ready = next;
-      }
-
   pub did_by : (s s' : Searcher M S P) (c : Request Sym) (a : Reply) → Ready automaton shelf policy s → Kept automaton shelf s s' → Answered (subject automaton s) (memory shelf policy s) c (memory shelf policy s') a → Did automaton shelf policy s c s' a
   did_by s s' c a ready k w =
-      did_as s s' c a ready
-      (ready_next automaton shelf policy laws s s' ready k (calling (subject automaton s) (laws s.automaton.now) (memory shelf policy s) c (memory shelf policy s') a ready.sound w).sound) w
+      record {
+        answered = w;
+        ready = ready_next automaton shelf policy laws s s' ready k (calling (subject automaton s) (laws s.automaton.now) (memory shelf policy s) c (memory shelf policy s') a ready.sound w).sound;
+      }
 
   pub did_refused : (s : Searcher M S P) (c : Request Sym) (q : Refusal) (entries : List Span) (a : Answer) → a ≡ Refused q → Ready automaton shelf policy s → Answered (subject automaton s) (memory shelf policy s) c (memory shelf policy s) (Refuses q) → Did automaton shelf policy s c s (reply entries a)
-  did_refused s c q entries a e ready w = subst (λ y. Did automaton shelf policy s c s y) (sym (ap (reply entries) e)) (did_as s s c (Refuses q) ready ready w)
+  did_refused s c q entries a e ready w = subst (λ y. Did automaton shelf policy s c s y) (sym (ap (reply entries) e)) (record { answered = w; ready = ready })
+
+  -- what a search found is right by the pattern's words
+  pub by_words : (s n : Searcher M S P) (c : Request Sym) (a : Reply) → Ready automaton shelf policy s → Did automaton shelf policy s c n a → ByWords (subject automaton s) c a
+  by_words s n c a ready did = (calling (subject automaton s) (laws s.automaton.now) (memory shelf policy s) c (memory shelf policy n) a ready.sound did.answered).words
 
   pub located_some : (j n : Searcher M S P) (m : Memory PositionSet) (r : List Sym) (f s : ℕ) (back : BackScan) (ahead : AheadScan) (finding : Finding) → n.automaton ≡ j.automaton → back.at ≡ f → back.start ≡ Some s → finding.span ≡ cond (ltb s ahead.end) (Some (record { start = s; end = ahead.end })) None → tallied finding.counts ≡ both (tallied back.counts) (tallied ahead.counts) → Backed automaton shelf policy m r back j → Reached automaton shelf policy (memory shelf policy j) r s ahead n → Located automaton shelf policy m r f finding n
   located_some j n m r f s back ahead finding e at is span z b a =
@@ -61,20 +60,26 @@ module _ {M S P Sym : Type 0} (automaton : AutomatonMeaning M Sym) (shelf : Shel
         walk = walk_some X m (memory shelf policy j) (memory shelf policy n) r f s (tallied back.counts) (tallied ahead.counts) (tallied finding.counts) begins so.walk a.walk z;
       }
 
-  pub did_found : (s n : Searcher M S P) (r : List Sym) (f : ℕ) (finding : Finding) → Ready automaton shelf policy s → n.automaton ≡ s.automaton → length r ≤ 1048576 → f ≤ length r → Located automaton shelf policy (memory shelf policy s) r f finding n → Did automaton shelf policy s (Search (Find r f)) n (Searched (Found finding.span) (tallied finding.counts))
-  did_found s n r f finding ready e l h w =
-      did_as s n (Search (Find r f)) (Searched (Found finding.span) (tallied finding.counts)) ready w.ready
-      (subst (λ y. Answered (automaton.subject y.now) (memory shelf policy s) (Search (Find r f)) (memory shelf policy n) (Searched (Found finding.span) (tallied finding.counts))) e
-      (find_answered (subject automaton n) (memory shelf policy s) (memory shelf policy n) r f finding.span (tallied finding.counts) l h w.span_is w.walk))
+  pub did_found : (s n : Searcher M S P) (r : List Sym) (f : ℕ) (finding : Finding) → n.automaton ≡ s.automaton → length r ≤ 1048576 → f ≤ length r → Located automaton shelf policy (memory shelf policy s) r f finding n → Did automaton shelf policy s (Search (Find r f)) n (Searched (Found finding.span) (tallied finding.counts))
+  did_found s n r f finding e l h w =
+      record {
+        answered = subst (λ y. Answered (automaton.subject y.now) (memory shelf policy s) (Search (Find r f)) (memory shelf policy n) (Searched (Found finding.span) (tallied finding.counts))) e
+            (find_answered (subject automaton n) (memory shelf policy s) (memory shelf policy n) r f finding.span (tallied finding.counts) l h w.span_is w.walk);
+        ready = w.ready;
+      }
 
-  pub did_whole : (s n : Searcher M S P) (r : List Sym) (y : Bool) (ahead : AheadScan) → Ready automaton shelf policy s → n.automaton ≡ s.automaton → length r ≤ 1048576 → y ≡ whole (subject automaton n).machine r → Reached automaton shelf policy (memory shelf policy s) r 0 ahead n → Did automaton shelf policy s (Search (Whole r)) n (Searched (Told y) (tallied ahead.counts))
-  did_whole s n r y ahead ready e l is w =
-      did_as s n (Search (Whole r)) (Searched (Told y) (tallied ahead.counts)) ready w.ready
-      (subst (λ z. Answered (automaton.subject z.now) (memory shelf policy s) (Search (Whole r)) (memory shelf policy n) (Searched (Told y) (tallied ahead.counts))) e
-      (whole_answered (subject automaton n) (memory shelf policy s) (memory shelf policy n) r y (tallied ahead.counts) l is w.walk))
+  pub did_whole : (s n : Searcher M S P) (r : List Sym) (y : Bool) (ahead : AheadScan) → n.automaton ≡ s.automaton → length r ≤ 1048576 → y ≡ whole (subject automaton n).machine r → Reached automaton shelf policy (memory shelf policy s) r 0 ahead n → Did automaton shelf policy s (Search (Whole r)) n (Searched (Told y) (tallied ahead.counts))
+  did_whole s n r y ahead e l is w =
+      record {
+        answered = subst (λ z. Answered (automaton.subject z.now) (memory shelf policy s) (Search (Whole r)) (memory shelf policy n) (Searched (Told y) (tallied ahead.counts))) e
+            (whole_answered (subject automaton n) (memory shelf policy s) (memory shelf policy n) r y (tallied ahead.counts) l is w.walk);
+        ready = w.ready;
+      }
 
-  pub did_listed : (s n : Searcher M S P) (r : List Sym) (entries f : ℕ) (xs : List Span) (ending : Ending) → Ready automaton shelf policy s → n.automaton ≡ s.automaton → length r ≤ 1048576 → f ≤ length r → Listed automaton shelf policy (memory shelf policy s) r entries f xs ending n → Did automaton shelf policy s (Search (Lists r f entries)) n (Searched (ListsFound xs ending.rest) (tallied ending.counts))
-  did_listed s n r entries f xs ending ready e l h w =
-      did_as s n (Search (Lists r f entries)) (Searched (ListsFound xs ending.rest) (tallied ending.counts)) ready w.ready
-      (subst (λ y. Answered (automaton.subject y.now) (memory shelf policy s) (Search (Lists r f entries)) (memory shelf policy n) (Searched (ListsFound xs ending.rest) (tallied ending.counts))) e
-      (list_answered (subject automaton n) (memory shelf policy s) (memory shelf policy n) r f entries xs ending.rest (tallied ending.counts) l h w.written_is w.rest_is w.walk))
+  pub did_listed : (s n : Searcher M S P) (r : List Sym) (entries f : ℕ) (xs : List Span) (ending : Ending) → n.automaton ≡ s.automaton → length r ≤ 1048576 → f ≤ length r → Listed automaton shelf policy (memory shelf policy s) r entries f xs ending n → Did automaton shelf policy s (Search (Lists r f entries)) n (Searched (ListsFound xs ending.rest) (tallied ending.counts))
+  did_listed s n r entries f xs ending e l h w =
+      record {
+        answered = subst (λ y. Answered (automaton.subject y.now) (memory shelf policy s) (Search (Lists r f entries)) (memory shelf policy n) (Searched (ListsFound xs ending.rest) (tallied ending.counts))) e
+            (list_answered (subject automaton n) (memory shelf policy s) (memory shelf policy n) r f entries xs ending.rest (tallied ending.counts) l h w.written_is w.rest_is w.walk);
+        ready = w.ready;
+      }

@@ -5,7 +5,6 @@ use Rattle.memory.specs.declared.policy.Policy.{Ghosts as PolicyMeaning}
 use Rattle.theory.specs.declared.Span.{Span}
 use Rattle.law.specs.Calls.{Request, Searched, Found as Finds, Listed as Lists, Told, Dropped as Drops, Refused as Refuses, Answered}
 use Rattle.law.specs.Calls.{Answer as Reply}
-use Rattle.law.specs.Law.{ByWords}
 use Rattle.automaton.specs.declared.automaton.Automaton.{Ghosts as AutomatonMeaning}
 use Rattle.search.specs.declared.searcher.Searcher.{Searcher}
 use Rattle.search.specs.declared.answer.Answer.{Answer}
@@ -29,9 +28,7 @@ written (Whole y k) = 0
 written (Dropped gone) = 0
 written (Refused q) = 0
 
--- the call was answered as the law has it, what a search found is right by the pattern's words, and the searcher is
--- ready for the next
+-- the call was answered as the law has it, and the searcher is ready for the next
 pub record Did {M S P Sym : Type 0} (automaton : AutomatonMeaning M Sym) (shelf : ShelfMeaning S) (policy : PolicyMeaning P) (before : Searcher M S P) (c : Request Sym) (after : Searcher M S P) (a : Reply) : Type 0 where
   pub answered : Answered (subject automaton before) (memory shelf policy before) c (memory shelf policy after) a
-  pub words : ByWords (subject automaton before) c a
   pub ready : Ready automaton shelf policy after

@@ -4,7 +4,8 @@ ghost use Rattle.theory.specs.declared.Span.{Span as Spanned};
 ghost use Rattle.refusal.specs.declared.Refusal.{Refusal as Refusing};
 ghost use Rattle.law.specs.Calls.{refusal, Search, Find as FindQuery, Lists as ListQuery, Whole as WholeQuery, Limit as LimitRequest, Clear as ClearRequest};
 ghost use Rattle.search.specs.Counted.{Bounded};
-ghost use Rattle.search.specs.Remembered.{memory, Ready};
+ghost use Rattle.law.specs.Law.{ByWords};
+ghost use Rattle.search.specs.Remembered.{memory, subject, Ready};
 ghost use Rattle.collector.specs.Pushing.{held, size};
 ghost use Rattle.search.specs.Scanning.{Located, Listed, Filled};
 ghost use Rattle.search.specs.Calling.{reply, written, Did};
@@ -68,6 +69,7 @@ impl<'p, M: Automaton, S: Shelf, P: Policy> Searcher<'p, M, S, P> {
 
     pub fn find(&mut self, row: &[M::Symbol], from: usize) -> Answer
         ensures did { (entries : List Spanned) → Ready M.Automaton S.Shelf P.Policy self.old → Did M.Automaton S.Shelf P.Policy self.old (Search (FindQuery row.now from)) self.new (reply entries result) }
+        ensures words { (entries : List Spanned) → Ready M.Automaton S.Shelf P.Policy self.old → ByWords (subject M.Automaton self.old) (Search (FindQuery row.now from)) (reply entries result) }
         ensures idle { (q : Refusing) → refusal (Search (FindQuery row.now from)) ≡ Some q → self.new ≡ self.old }
         ensures automaton { self.new.automaton ≡ self.old.automaton }
     {
@@ -111,6 +113,7 @@ impl<'p, M: Automaton, S: Shelf, P: Policy> Searcher<'p, M, S, P> {
     // Writes a span for each find, each from the end of the one before, and says where to go on.
     pub fn list(&mut self, row: &[M::Symbol], from: usize, entries: &mut [Span]) -> Answer
         ensures did { Ready M.Automaton S.Shelf P.Policy self.old → Did M.Automaton S.Shelf P.Policy self.old (Search (ListQuery row.now from (length entries.old))) self.new (reply entries.new result) }
+        ensures words { Ready M.Automaton S.Shelf P.Policy self.old → ByWords (subject M.Automaton self.old) (Search (ListQuery row.now from (length entries.old))) (reply entries.new result) }
         ensures idle { (q : Refusing) → refusal (Search (ListQuery row.now from (length entries.old))) ≡ Some q → self.new ≡ self.old }
         ensures behind { drop (written result) entries.new ≡ drop (written result) entries.old }
         ensures automaton { self.new.automaton ≡ self.old.automaton }
@@ -129,6 +132,7 @@ impl<'p, M: Automaton, S: Shelf, P: Policy> Searcher<'p, M, S, P> {
     // Whether the record is a word.
     pub fn whole(&mut self, row: &[M::Symbol]) -> Answer
         ensures did { (entries : List Spanned) → Ready M.Automaton S.Shelf P.Policy self.old → Did M.Automaton S.Shelf P.Policy self.old (Search (WholeQuery row.now)) self.new (reply entries result) }
+        ensures words { (entries : List Spanned) → Ready M.Automaton S.Shelf P.Policy self.old → ByWords (subject M.Automaton self.old) (Search (WholeQuery row.now)) (reply entries result) }
         ensures idle { (q : Refusing) → refusal (Search (WholeQuery row.now)) ≡ Some q → self.new ≡ self.old }
         ensures automaton { self.new.automaton ≡ self.old.automaton }
     {
