@@ -60,7 +60,7 @@ Same cs rs ds ts = searches cs ≡ searches ds → map outcome (law_replies cs r
 abbrev pub Agrees : {Sym : Type 0} → Subject Sym PositionSet → List (Request Sym) → List Reply → Type 0
 Agrees {Sym} X cs rs =
     (places capacity : ℕ) (ds : List (Request Sym)) (ts : List Reply) (k : Memory PositionSet) →
-    Lawful X places capacity ds ts k → Same cs rs ds ts
+    Lawful X places capacity ds ts k → searches cs ≡ searches ds → map outcome (law_replies cs rs) ≡ map outcome (law_replies ds ts)
 
 -- the calls cs, answered rs, led from the memory m to n: whatever series led from the opening to m, both together keep the law
 abbrev pub Continues : {Sym : Type 0} → Subject Sym PositionSet → Memory PositionSet → List (Request Sym) → List Reply → Memory PositionSet → Type 0
