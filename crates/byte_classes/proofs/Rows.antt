@@ -86,12 +86,12 @@ filled_at ts b n n' class class' passing passing' e f g h = rw (e, f, g) h
 upto_new : (ts : List ByteTest) (b n : ℕ) (s : PositionSet) (class : List ℕ) (passing : List PositionSet) → b < 256 → length class ≡ 256 → length passing ≡ 256 → smallest (alike ts) b ≡ b → holds s ≡ passed_byte ts b → Upto ts b n class passing → Upto ts (b + 1) (n + 1) (set class b n) (set passing n s)
 upto_new ts b n s class passing l m m' e g h =
     let eq = alike_equivalence ts in
-    let leads-b : leads (alike ts) b ≡ true = eq-eqb (smallest (alike ts) b) b e in
+    let leads_b : leads (alike ts) b ≡ true = eq-eqb (smallest (alike ts) b) b e in
     let low : how_many (leads (alike ts)) b ≤ b = how_many_le (leads (alike ts)) b in
     let c = h.0 in (
-      ap (λ k. k + 1) c ∙ sym (ap (how_many (leads (alike ts))) (add-one b) ∙ how_many_yes (leads (alike ts)) b leads-b),
-      below_set (byte_class ts) class b n (omega arith) h.1 (c ∙ sym (class_leads (alike ts) b leads-b)),
-      below_kept (λ k x. holds x ≡ passed_byte ts (member (alike ts) 256 k)) passing n s blank (omega arith) h.2 (g ∙ ap (passed_byte ts) (sym (member_is (alike ts) eq 256 b n l leads-b (sym c)))),
+      ap (λ k. k + 1) c ∙ sym (ap (how_many (leads (alike ts))) (add-one b) ∙ how_many_yes (leads (alike ts)) b leads_b),
+      below_set (byte_class ts) class b n (omega arith) h.1 (c ∙ sym (class_leads (alike ts) b leads_b)),
+      below_kept (λ k x. holds x ≡ passed_byte ts (member (alike ts) 256 k)) passing n s blank (omega arith) h.2 (g ∙ ap (passed_byte ts) (sym (member_is (alike ts) eq 256 b n l leads_b (sym c)))),
     )
 
 -- another byte has the class of the smallest byte like it

@@ -19,7 +19,7 @@ use Rattle.byte_notation.specs.declared.brackets.Bracket.{Bracket}
 use Rattle.byte_notation.specs.Atoms.{one_of, NoRange, Member, class, range, byte, MayBegin, Run, none, more, Opened, straight, caret, Escape, line_feed, tab, carriage_return, itself, Atom, dot, plain, escaped, bracket, Refused, nothing_begins, escape_last, escape_unknown, unclosed, reversed}
 use Rattle.byte_notation.specs.Brackets as b
 use Rattle.byte_notation.specs.Brackets.{after, range_end, ranged, class_else, member_at, width, with_ranges, with_member, proceed, members, bracketed, tested}
-use Rattle.byte_notation.specs.Lexing.{lexed, item, refused, signed, atom, only_byte, any_byte, escape_of, escaped as escapedAs}
+use Rattle.byte_notation.specs.Lexing.{lexed, item, refused, signed, atom, only_byte, any_byte, escape_of, escaped as escaped_as}
 use Rattle.byte_notation.specs.Law.{sign_byte, Passes}
 use Rattle.byte_notation.specs.Classes.{names, span, starts, class_width}
 use Rattle.byte_notation.proofs.Classed.{class_complete, class_none}
@@ -248,7 +248,7 @@ atoms_read place (bracket inverted {text} {inner} {behind} {rs} o r) =
 pub refusals_read : (place : ℕ) {text : List ℕ} {cause : Cause} {at : ℕ} → Refused place text cause at → lexed place text ≡ refused cause at
 refusals_read place (nothing_begins b {rest} e) = one_of_lem (λ n. lexed place (n ∷ rest) ≡ refused NoItem place) b (codes "{^$") (refl, (refl, (refl, tt))) e
 refusals_read place escape_last = refl
-refusals_read place (escape_unknown c {rest} d) = ap (escapedAs place) (unknown_escape c d)
+refusals_read place (escape_unknown c {rest} d) = ap (escaped_as place) (unknown_escape c d)
 refusals_read place (unclosed {inverted} {text} {inner} {s} {rs} o r) =
     let n = entered place o in
     n.is ∙ ap (bracketed place inverted) (run_read r place no_byte n.start (n.start + length inner) (omega arith))

@@ -7,7 +7,7 @@
 ghost use Rattle.std.specs.Prelude.{◌≡◌, ◌+◌, ◌<◌, length, drop, slice_index};
 ghost use Rattle.items.specs.Lexemes.{Within};
 ghost use Rattle.byte_notation.specs.Law.{Reads};
-ghost use Rattle.byte_notation.specs.Lexing.{lexed, item, escape, escape_of, signed, atom as atomOf, only_byte, any_byte};
+ghost use Rattle.byte_notation.specs.Lexing.{lexed, item, escape, escape_of, signed, atom as atom_of, only_byte, any_byte};
 
 use items::{Lexeme, Notation, Sign, Token};
 use refusal::{Cause, Refusal};
@@ -69,7 +69,7 @@ fn sign(sign: Sign) -> Lexeme<ByteTest>
 }
 
 fn atom(test: ByteTest, width: usize) -> Lexeme<ByteTest>
-    ensures { result ≡ atomOf test width }
+    ensures { result ≡ atom_of test width }
 {
     Lexeme {
         token: Token::Atom(test),

@@ -85,7 +85,7 @@ run_of [] = record { run = []; behind = []; whole = refl; all = tt; ends = tt }
 run_of (b ∷ bs) =
     ⊎_elim
     (λ (is : digit b ≡ true). let r = run_of bs in record { run = b ∷ r.run; behind = r.behind; whole = ap (λ l. b ∷ l) r.whole; all = (is, r.all); ends = r.ends })
-    (λ (is-not : digit b ≡ false). record { run = []; behind = b ∷ bs; whole = refl; all = tt; ends = is-not })
+    (λ (is_not : digit b ≡ false). record { run = []; behind = b ∷ bs; whole = refl; all = tt; ends = is_not })
     (cases_Bool (digit b))
 
 -- by the run's length and value

@@ -60,9 +60,9 @@ module _ (place : ℕ) (text : List ℕ) (at : ℕ) (ks : List ℕ) (kind : ℕ)
           (λ (dash : begins 45 behind ≡ true).
           let split : rest ≡ vs ++ 45 ∷ drop 1 behind = whole ∙ ap (λ l. vs ++ l) (begins_split 45 behind dash) in
           subst (λ l. Outcome place text (ks ++ 58 ∷ l)) (sym split) (with_second vs (drop 1 behind) low first (subst (Due place text first_value (at + length ks + 1)) split next)))
-          (λ (no-dash : begins 45 behind ≡ false).
+          (λ (no_dash : begins 45 behind ≡ false).
           selects one_value (ks ++ 58 ∷ vs) behind kind low low (ap (λ l. ks ++ 58 ∷ l) whole ∙ sym (append_assoc ks (58 ∷ vs) behind))
-          (record { front = ks; behind = 58 ∷ vs; whole = refl; numeral = num; values = (vs, refl, first, refl) }) (ends_with 45 behind ends no-dash))
+          (record { front = ks; behind = 58 ∷ vs; whole = refl; numeral = num; values = (vs, refl, first, refl) }) (ends_with 45 behind ends no_dash))
           (cases_Bool (begins 45 behind))
 
 outcome : (place : ℕ) (text : List ℕ) (at : ℕ) (bs : List ℕ) → Due place text the_kind at bs → Outcome place text bs
@@ -75,9 +75,9 @@ outcome place text at bs due = by (front 255 bs)
         (λ (colon : begins 58 behind ≡ true).
         let split : bs ≡ ks ++ 58 ∷ drop 1 behind = whole ∙ ap (λ l. ks ++ l) (begins_split 58 behind colon) in
         subst (Outcome place text) (sym split) (with_first place text at ks kind num (drop 1 behind) (subst (Due place text the_kind at) split due)))
-        (λ (no-colon : begins 58 behind ≡ false).
+        (λ (no_colon : begins 58 behind ≡ false).
         selects kind_alone (ks ++ []) behind kind 0 65535 (whole ∙ sym (append_assoc ks [] behind))
-        (record { front = ks; behind = []; whole = refl; numeral = num; values = (refl, refl, refl) }) (ends_with 58 behind ends no-colon))
+        (record { front = ks; behind = []; whole = refl; numeral = num; values = (refl, refl, refl) }) (ends_with 58 behind ends no_colon))
         (cases_Bool (begins 58 behind))
 
 signs_read : (place : ℕ) (s : OneSign) (behind : List ℕ) → lexed place (sign_byte s ∷ behind) ≡ Ok (record { token = Sign s; width = 1 })

@@ -89,7 +89,7 @@ module _ {Sym States : Type 0} (M : Subject Sym States) where
         let ys : List (Read Sym States) = all_reads M cs in
         let i = calling M law m q k a ok s in
         let sets = sets_append M xs ys seen in
-        let Steps-all = keys_append M xs ys keys in
+        let steps_all = keys_append M xs ys keys in
         let less = sets_front M xs ys seen in
         let fewer = keys_front M xs ys keys in
         let later = least_later m.places m.limit q cs in

@@ -49,7 +49,7 @@ module _ {Sym States : Type 0} (M : Subject Sym States) where
     pub capacity : n.capacity ≡ m.capacity
 
   noted_with : (m : Memory States) (f : Map) (p c t gone : ℕ) → Sound M m → p < m.places → c < 256 → Joins M m p c t → f p c ≡ None → ((q d u : ℕ) → f q d ≡ Some u → m.known q d ≡ Some u) → size m.places f < m.capacity → gone + size m.places f ≡ steps_known m → Noting m p c t (with_steps m (noted f p c t)) gone
-  noted_with m f p c t gone ok l cl j free fewer spare-room z =
+  noted_with m f p c t gone ok l cl j free fewer spare_room z =
       let e : size m.places (noted f p c t) ≡ size m.places f + 1 = size_noted m.places f p c t l cl free in
       record {
         sound = sound_with m (noted f p c t) ok (omega arith)

@@ -128,7 +128,7 @@ module _ {Sym States : Type 0} (M : Subject Sym States) where
       }
 
   pub sound_drop : (m : Memory States) (x : Members) → Sound M m → steps_known (without_places m x) ≤ steps_known m → Sound M (without_places m x)
-  sound_drop m x ok less-steps =
+  sound_drop m x ok less_steps =
       record {
         heard = λ k. heard_drop m x k (ok.heard k);
         low = λ q s e. ok.low q s (drop_was m x q s e).0;

@@ -146,7 +146,7 @@ without_none : (f : Map) (m : ℕ → Bool) (p c : ℕ) → f p c ≡ None → w
 without_none f m p c e = ap (λ x. cond (m p) None (unless m x)) e ∙ none_both (m p)
 
 pub kept_more : (old xs : List Step) (m : ℕ → Bool) (len i k : ℕ) → Kept old m i xs k → distinct old len ≡ true → i < len → len ≤ length xs → m (at xs i).place ≡ false → m (at xs i).target ≡ false → Kept old m (i + 1) (set xs k (at xs i)) (k + 1)
-kept_more old xs m len i k t ok hi len-low a b =
+kept_more old xs m len i k t ok hi len_low a b =
     let s : at xs i ≡ at old i = t.rest i (omega arith) in
     let l : k < length xs = omega (arith, t.low) in
     let f : New (pairs old i) (at old i) = fine_at old len i ok hi in

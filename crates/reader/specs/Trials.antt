@@ -3,8 +3,8 @@ use Rattle.std.specs.Prelude.{◌≡◌, ℕ, [], ◌∷◌, Some, None, codes, 
 use Prim.Native.String.{String}
 use Rattle.refusal.specs.Causes.{number_of}
 use Rattle.pattern.specs.declared.Code.{Code}
-use Rattle.byte_notation.specs.Lexing.{lexed as lexedByte}
-use Rattle.event_notation.specs.Reading.{lexed as lexedEvent}
+use Rattle.byte_notation.specs.Lexing.{lexed as lexed_byte}
+use Rattle.event_notation.specs.Reading.{lexed as lexed_event}
 use Rattle.reader.specs.Reading.{Reading, reading, codes_read}
 use Rattle.reader.specs.Reading.Reading.{accepted, refused}
 
@@ -15,10 +15,10 @@ told (refused e) = Some (number_of e.cause, e.place)
 
 -- the text is refused with that number at that place
 abbrev pub Bytes : String → ℕ → ℕ → Type 0
-Bytes text number place = told (reading lexedByte (codes text)) ≡ Some (number, place)
+Bytes text number place = told (reading lexed_byte (codes text)) ≡ Some (number, place)
 
 abbrev pub Events : String → ℕ → ℕ → Type 0
-Events text number place = told (reading lexedEvent (codes text)) ≡ Some (number, place)
+Events text number place = told (reading lexed_event (codes text)) ≡ Some (number, place)
 
 pub record Trials : Type 0 where
   pub empty : Bytes "" 11 0
@@ -34,4 +34,4 @@ pub record Trials : Type 0 where
   -- trailing spaces count
   pub trailing_space : Events "4 | " 11 4
   -- chains and choices group from the left
-  pub grouped : codes_read (reading lexedByte (codes "a|bcd*")) ≡ Code.Atom ∷ Code.Atom ∷ Code.Atom ∷ Code.Join ∷ Code.Atom ∷ Code.Star ∷ Code.Join ∷ Code.Choice ∷ []
+  pub grouped : codes_read (reading lexed_byte (codes "a|bcd*")) ≡ Code.Atom ∷ Code.Atom ∷ Code.Atom ∷ Code.Join ∷ Code.Atom ∷ Code.Star ∷ Code.Join ∷ Code.Choice ∷ []

@@ -15,10 +15,10 @@ goods es f xs = es ++ good_rows (rows_of f (pieces 10 xs))
 abbrev pub bads : List BadLine → ℕ → Bool → List ℕ → List BadLine
 bads bs n f xs = bs ++ bad_rows n (rows_of f (pieces 10 xs))
 
-module _ (f g : Bool) (xs ys : List ℕ) (r : Row) (is_row : r ≡ row_of f (up_to 10 xs)) (isNext : g ≡ still_first f r) (is_rest : ys ≡ past 10 xs) where
+module _ (f g : Bool) (xs ys : List ℕ) (r : Row) (is_row : r ≡ row_of f (up_to 10 xs)) (is_next : g ≡ still_first f r) (is_rest : ys ≡ past 10 xs) where
   rows : row_of f (up_to 10 xs) ∷ rows_of (still_first f (row_of f (up_to 10 xs))) (pieces 10 (past 10 xs)) ≡ r ∷ rows_of g (pieces 10 ys)
   rows =
-      sym (ap (λ l. r ∷ rows_of g (pieces 10 l)) is_rest ∙ ap (λ v. r ∷ rows_of v (pieces 10 (past 10 xs))) isNext
+      sym (ap (λ l. r ∷ rows_of g (pieces 10 l)) is_rest ∙ ap (λ v. r ∷ rows_of v (pieces 10 (past 10 xs))) is_next
       ∙ ap (λ q. q ∷ rows_of (still_first f q) (pieces 10 (past 10 xs))) is_row)
 
   pub good : (es more : List Event) → more ≡ es ++ good_in r → goods more g ys ≡ goods es f xs

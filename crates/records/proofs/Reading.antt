@@ -28,11 +28,11 @@ a_word : (w : List ℕ) (ws : List (List ℕ)) → (length w ≡ 0 → ⊥) → 
 a_word [] ws h = absurd (h refl)
 a_word (x ∷ xs) ws h = refl
 
-module _ (es : List Event) (n : ℕ) (xs : List ℕ) (w ys : List ℕ) (isWord : w ≡ stripped (up_to 32 xs)) (is_rest : ys ≡ past 32 xs) where
+module _ (es : List Event) (n : ℕ) (xs : List ℕ) (w ys : List ℕ) (is_word : w ≡ stripped (up_to 32 xs)) (is_rest : ys ≡ past 32 xs) where
   split : to_read es n xs ≡ joined es (events_from n (and_word w (words_of (pieces 32 ys))))
   split =
       first (λ ps. joined es (events_from n (words_of ps))) (λ p. refl) 32 xs
-      ∙ sym (ap (λ v. joined es (events_from n (and_word v (words_of (pieces 32 ys))))) isWord ∙ ap (λ l. joined es (events_from n (and_word (stripped (up_to 32 xs)) (words_of (pieces 32 l))))) is_rest)
+      ∙ sym (ap (λ v. joined es (events_from n (and_word v (words_of (pieces 32 ys))))) is_word ∙ ap (λ l. joined es (events_from n (and_word (stripped (up_to 32 xs)) (words_of (pieces 32 l))))) is_rest)
 
   pub passed : length w ≡ 0 → to_read es n ys ≡ to_read es n xs
   passed h = sym (split ∙ ap (λ ws. joined es (events_from n ws)) (no_word w (words_of (pieces 32 ys)) h))

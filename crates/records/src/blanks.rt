@@ -1,12 +1,12 @@
 // A text without the blanks around it.
 ghost use Rattle.std.specs.Prelude.{◌≡◌};
-ghost use Rattle.records.specs.Blanks.{fronted as frontedText, stripped as strippedText};
+ghost use Rattle.records.specs.Blanks.{fronted as fronted_text, stripped as stripped_text};
 
 use script::words::{is_blank, trimmed};
 
 // The text without the blanks at its front.
 fn fronted(text: &[u8]) -> &[u8]
-    ensures { result.now ≡ frontedText text.now }
+    ensures { result.now ≡ fronted_text text.now }
 {
     for i in 0..text.len() {
         if !is_blank(text[i]) {
@@ -17,7 +17,7 @@ fn fronted(text: &[u8]) -> &[u8]
 }
 
 pub(crate) fn stripped(text: &[u8]) -> &[u8]
-    ensures { result.now ≡ strippedText text.now }
+    ensures { result.now ≡ stripped_text text.now }
 {
     fronted(trimmed(text))
 }

@@ -1,6 +1,6 @@
 // The words of a line, which stand between spaces.
 ghost use Rattle.std.specs.Prelude.{◌≡◌, ◌≤◌, length};
-ghost use Rattle.script.specs.Words.{up_to, past, blank, same, ends, trimmed as trimmedText};
+ghost use Rattle.script.specs.Words.{up_to, past, blank, same, ends, trimmed as trimmed_text};
 
 // How many bytes stand before the first that is `byte`, or all of them.
 pub fn index_of(text: &[u8], byte: u8) -> usize
@@ -57,7 +57,7 @@ pub fn is_word(text: &[u8], word: &[u8]) -> bool
 
 // The text without the blanks at its end.
 pub fn trimmed(text: &[u8]) -> &[u8]
-    ensures { result.now ≡ trimmedText text.now }
+    ensures { result.now ≡ trimmed_text text.now }
 {
     let mut end = text.len();
     while end > 0 && is_blank(text[end - 1]) {

@@ -51,12 +51,12 @@ module _ {M S P Sym : Type 0} (automaton : AutomatonMeaning M Sym) (shelf : Shel
       subst (λ y. BackSoFar X m r y back.cursor.set back.start (memory shelf policy j) (tallied back.counts)) at
       (subst (λ y. BackSoFar (automaton.subject y.now) m r back.at back.cursor.set back.start (memory shelf policy j) (tallied back.counts)) (sym e) b.so_far) in
       let begins : start X.machine f (drop f r) ≡ Some s = sym so.start_is ∙ is in
-      let is-find : Some (record { start = s; end = ahead.end }) ≡ find X.machine r f = find_some X r f s ahead.end begins a.end_is in
+      let is_find : Some (record { start = s; end = ahead.end }) ≡ find X.machine r f = find_some X r f s ahead.end begins a.end_is in
       let F : Option Span → Type 0 = λ o. Finds (Word X) r f o in
-      let word : Finds (Word X) r f (Some (record { start = s; end = ahead.end })) = subst F (sym is-find) (says X (laws n.automaton.now) (Find r f)) in
+      let word : Finds (Word X) r f (Some (record { start = s; end = ahead.end })) = subst F (sym is_find) (says X (laws n.automaton.now) (Find r f)) in
       record {
         ready = a.ready;
-        span_is = span ∙ ap (λ b. cond b (Some (record { start = s; end = ahead.end })) None) (lt-ltb s ahead.end word.match.some) ∙ is-find;
+        span_is = span ∙ ap (λ b. cond b (Some (record { start = s; end = ahead.end })) None) (lt-ltb s ahead.end word.match.some) ∙ is_find;
         walk = walk_some X m (memory shelf policy j) (memory shelf policy n) r f s (tallied back.counts) (tallied ahead.counts) (tallied finding.counts) begins so.walk a.walk z;
       }
 

@@ -1,6 +1,6 @@
 // A line of a script that searches as a command.
 ghost use Rattle.std.specs.Prelude.{◌≡◌};
-ghost use Rattle.script.specs.Commands.{asked as plainAsked, contents as plainContents};
+ghost use Rattle.script.specs.Commands.{asked as plain_asked, contents as plain_contents};
 ghost use Rattle.search_script.specs.Commands.{number_behind, two_behind, asked_bare, asked_by, mistake_of, plainly, asked, contents, told_command, told};
 
 use crate::opening::parse_opening;
@@ -141,7 +141,7 @@ fn mistake_of(mistake: command::Mistake) -> Mistake
 
 // A command that does not search.
 fn plainly(command: command::Command<'_>) -> Command<'_>
-    ensures { contents result ≡ plainly (plainContents command.entry) }
+    ensures { contents result ≡ plainly (plain_contents command.entry) }
 {
     match command {
         command::Command::Pattern(form, text) => Command::Pattern(form, text),

@@ -100,9 +100,9 @@ module _ (M : Subject ℕ ℕ) (proper : Proper M) (computed : Computed M) where
   one_search m capacity n y ok one cap deep c (searched q k is e at w) =
       let same : q ≡ abb = search_same q abb (sym is) in
       let P : Query ℕ → Type 0 = λ p. Walk M m (reads M p) n k in
-      let counts-is : k ≡ record { reads = 6; known = 0; built = 2; plain = 4; dropped = 1 } =
+      let counts_is : k ≡ record { reads = 6; known = 0; built = 2; plain = 4; dropped = 1 } =
       alone_walk M proper m (reads M abb) n k [] [] capacity ok one cap c (subst P same w) ∙ computed.counts_are capacity deep in
-      at ∙ ap (λ p. Searched (findings M p) k) same ∙ ap (λ f. Searched f k) computed.findings_are ∙ ap (λ t. Searched (Found (Some (span 0 3))) t) counts-is
+      at ∙ ap (λ p. Searched (findings M p) k) same ∙ ap (λ f. Searched f k) computed.findings_are ∙ ap (λ t. Searched (Found (Some (span 0 3))) t) counts_is
 
   pub alone : (places capacity : ℕ) → 0 < places → 0 < capacity → Always M places capacity (Limit 1 ∷ Search abb ∷ []) (Dropped 0 ∷ counted 0 2 4 1 ∷ [])
   alone places capacity wide deep few [] n s = elim s [ ]

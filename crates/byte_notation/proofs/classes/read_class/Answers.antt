@@ -32,7 +32,7 @@ returns-then-begins_named c =
 pub loop-i-preserved : goal.loop-i-preserved
 loop-i-preserved c =
     let room : c.loop-i.i < length names = omega (arith, eight_names) in
-    let not-here : starts (get_or names c.loop-i.i [] ++ codes ":]") (drop 2 (drop c.args.cursor.now c.args.text.now)) ≡ false =
+    let not_here : starts (get_or names c.loop-i.i [] ++ codes ":]") (drop 2 (drop c.args.cursor.now c.args.text.now)) ≡ false =
     named_at c.args.text.now c.args.cursor.now c.loop-i.back.cursor.now c.name_of-name.result.now (get_or names c.loop-i.i []) c.begins_named.result false c.loop-i.invariant.0 c.name_of-name.ensures c.begins_named.ensures.is c.if-begins_named.false in (
       c.loop-i.invariant.0,
       c.loop-i.invariant.1,
@@ -40,7 +40,7 @@ loop-i-preserved c =
       refl,
       refl,
       c.loop-i.invariant.5,
-      sym (class_more names (drop c.args.cursor.now c.args.text.now) c.loop-i.i room c.loop-i.invariant.5 not-here) ∙ c.loop-i.invariant.6,
+      sym (class_more names (drop c.args.cursor.now c.args.text.now) c.loop-i.i room c.loop-i.invariant.5 not_here) ∙ c.loop-i.invariant.6,
     )
 
 pub returns : goal.returns
