@@ -3,8 +3,9 @@
 
 ghost use Rattle.pattern.specs.One.{OneTree};
 
-#[derive(Clone, Copy)]
+#[derive(Clone, Copy, Debug, Default, PartialEq, Eq)]
 pub enum Code {
+    #[default]
     Atom,
     Join,
     Choice,

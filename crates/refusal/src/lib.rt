@@ -5,7 +5,7 @@ ghost use Rattle.std.specs.Prelude.{◌≡◌};
 ghost use Rattle.refusal.specs.Causes.{number_of, layer_of};
 
 // The causes, in checking order.
-#[derive(Clone, Copy)]
+#[derive(Clone, Copy, Debug, PartialEq, Eq)]
 pub enum Cause {
     TextTooLong,
     NoItem,
@@ -60,7 +60,7 @@ impl Cause {
 }
 
 // A refusal: its cause and its place, a byte of the text counted from 0 (the text's length for what is missing at its end).
-#[derive(Clone, Copy)]
+#[derive(Clone, Copy, Debug, PartialEq, Eq)]
 pub struct Refusal {
     pub cause: Cause,
     pub place: usize,

@@ -6,7 +6,7 @@ ghost use Rattle.symbols.specs.Tests.{passes_byte, passes_code, code_of};
 ghost use Rattle.symbols.specs.ByteSets.{no_byte, with_byte, with_range, others, Nothing, Adds, Inverts, between};
 
 // A set of bytes: byte b is bit b mod 8 of the b div 8-th of `bits`.
-#[derive(Clone, Copy)]
+#[derive(Clone, Copy, Debug, Default, PartialEq, Eq)]
 pub struct ByteTest {
     pub bits: [u8; 32],
 }
@@ -55,7 +55,7 @@ impl ByteTest {
 }
 
 // Something that a bench reports. Searches do not look at the moment, in milliseconds.
-#[derive(Clone, Copy)]
+#[derive(Clone, Copy, Debug, PartialEq, Eq)]
 pub struct Event {
     pub kind: u8,
     pub value: u16,
@@ -72,7 +72,7 @@ impl Event {
 }
 
 // The events with a code from `low` to `high`; all others if inverted.
-#[derive(Clone, Copy)]
+#[derive(Clone, Copy, Debug, Default, PartialEq, Eq)]
 pub struct EventTest {
     pub low: u32,
     pub high: u32,
