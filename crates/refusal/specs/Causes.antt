@@ -2,6 +2,8 @@
 use Rattle.std.specs.Prelude.{ℕ}
 use Rattle.refusal.specs.declared.Cause.{Cause}
 use Rattle.refusal.specs.declared.Cause.TheVariants.{TextTooLong, NoItem, BadEscape, UnclosedBracket, ReversedRange, BadNumber, TooManyAtoms, TooDeep, MissingOperand, UnmatchedClosing, UnclosedGroup, RecordTooLong, FromPastEnd, LimitTooLarge}
+use Rattle.refusal.specs.declared.Layer.{Layer}
+use Rattle.refusal.specs.declared.Layer.TheVariants.{Items, Atoms, Structure, Call}
 
 abbrev pub number_of : Cause → ℕ
 number_of TextTooLong = 3
@@ -18,6 +20,12 @@ number_of UnclosedGroup = 13
 number_of RecordTooLong = 14
 number_of FromPastEnd = 15
 number_of LimitTooLarge = 16
+
+abbrev pub number_of_layer : Layer → ℕ
+number_of_layer Items = 2
+number_of_layer Atoms = 3
+number_of_layer Structure = 4
+number_of_layer Call = 5
 
 -- items are layer 2, the count of atoms 3, the pattern's structure 4, search calls 5
 abbrev pub layer_of : Cause → ℕ

@@ -2,59 +2,69 @@
 #![tactic(auto)]
 
 ghost use Rattle.std.specs.Prelude.{◌≡◌};
-ghost use Rattle.refusal.specs.Causes.{number_of, layer_of};
+ghost use Rattle.refusal.specs.Causes.{number_of, number_of_layer, layer_of};
 
-// The causes, in checking order.
+mod words;
+
+// The causes, in checking order, each with the number by which it is told.
 #[derive(Clone, Copy, Debug, PartialEq, Eq)]
 pub enum Cause {
-    TextTooLong,
-    NoItem,
-    BadEscape,
-    UnclosedBracket,
-    ReversedRange,
-    BadNumber,
-    TooManyAtoms,
-    TooDeep,
-    MissingOperand,
-    UnmatchedClosing,
-    UnclosedGroup,
-    RecordTooLong,
-    FromPastEnd,
-    LimitTooLarge,
+    TextTooLong = 3,
+    NoItem = 4,
+    BadEscape = 5,
+    UnclosedBracket = 6,
+    ReversedRange = 7,
+    BadNumber = 8,
+    TooManyAtoms = 9,
+    TooDeep = 10,
+    MissingOperand = 11,
+    UnmatchedClosing = 12,
+    UnclosedGroup = 13,
+    RecordTooLong = 14,
+    FromPastEnd = 15,
+    LimitTooLarge = 16,
+}
+
+// What refuses, with the number by which it is told: the items, the count of atoms, the pattern's structure, a search call.
+#[derive(Clone, Copy, Debug, PartialEq, Eq)]
+pub enum Layer {
+    Items = 2,
+    Atoms = 3,
+    Structure = 4,
+    Call = 5,
+}
+
+impl Layer {
+    pub fn number(self) -> u8
+        ensures { result ≡ number_of_layer self }
+    {
+        self as u8
+    }
 }
 
 impl Cause {
-    // The number by which the cause is told.
     pub fn number(self) -> u8
         ensures { result ≡ number_of self }
     {
-        match self {
-            Cause::TextTooLong => 3,
-            Cause::NoItem => 4,
-            Cause::BadEscape => 5,
-            Cause::UnclosedBracket => 6,
-            Cause::ReversedRange => 7,
-            Cause::BadNumber => 8,
-            Cause::TooManyAtoms => 9,
-            Cause::TooDeep => 10,
-            Cause::MissingOperand => 11,
-            Cause::UnmatchedClosing => 12,
-            Cause::UnclosedGroup => 13,
-            Cause::RecordTooLong => 14,
-            Cause::FromPastEnd => 15,
-            Cause::LimitTooLarge => 16,
-        }
+        self as u8
     }
 
-    // The layer that refuses: 2 items, 3 the count of atoms, 4 the pattern's structure, 5 a search call.
-    pub fn layer(self) -> u8
-        ensures { result ≡ layer_of self }
+    pub fn layer(self) -> Layer
+        ensures { number_of_layer result ≡ layer_of self }
     {
-        match self.number() {
-            0..=8 => 2,
-            9 => 3,
-            10..=13 => 4,
-            _ => 5,
+        match self {
+            Cause::TextTooLong
+            | Cause::NoItem
+            | Cause::BadEscape
+            | Cause::UnclosedBracket
+            | Cause::ReversedRange
+            | Cause::BadNumber => Layer::Items,
+            Cause::TooManyAtoms => Layer::Atoms,
+            Cause::TooDeep
+            | Cause::MissingOperand
+            | Cause::UnmatchedClosing
+            | Cause::UnclosedGroup => Layer::Structure,
+            Cause::RecordTooLong | Cause::FromPastEnd | Cause::LimitTooLarge => Layer::Call,
         }
     }
 }
