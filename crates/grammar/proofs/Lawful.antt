@@ -1,10 +1,11 @@
 -- What the definition accepts and refuses meets the law.
-use Rattle.std.proofs.Common.{◌≡◌, ℕ, List, sym, ◌∙◌}
+use Rattle.std.proofs.Common.{◌≡◌, ℕ, List, Ok, Err, Result, sym, ◌∙◌}
 use Rattle.items.specs.declared.Placed.{Placed}
 use Rattle.pattern.specs.declared.Code.{Code}
 use Rattle.refusal.specs.declared.Cause.{Cause}
-use Rattle.grammar.specs.Law.{Accepted, Refused}
-use Rattle.grammar.specs.Parse.{Outcome, parse}
+use Rattle.refusal.specs.declared.Refusal.{Refusal}
+use Rattle.grammar.specs.Law.{Accepted, Refused, Understood}
+use Rattle.grammar.specs.Parse.{Outcome, outcome, parse}
 use Rattle.grammar.specs.Parse.Outcome.{accepted, refused}
 use Rattle.grammar.proofs.Complete.{complete, one_list}
 use Rattle.grammar.proofs.First.{clash, first_met}
@@ -22,3 +23,7 @@ same_refusal {o} {j} {k} {q} {p} a b = let c : j ≡ k = cc in let d : q ≡ p =
 
 pub refused_so : (xs : List Placed) (len : ℕ) (k : Cause) (p : ℕ) → parse xs len ≡ refused k p → Refused xs len k p
 refused_so xs len k p e = record { none = λ cs q. clash k p cs (sym e ∙ complete len q); met = first_met xs len k p e; only = λ j q m. same_refusal (met_refused len xs j q m) e }
+
+pub understood : (xs : List Placed) (len : ℕ) (cs : List Code) (r : Result (Unit {0}) Refusal) → parse xs len ≡ outcome r cs → Understood xs len cs r
+understood xs len cs (Ok u) e = accepted_so xs len cs e
+understood xs len cs (Err k) e = refused_so xs len k.cause k.place e

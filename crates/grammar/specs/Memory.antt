@@ -1,5 +1,5 @@
 -- The parser's memory as a state of the definition.
-use Rattle.std.specs.Prelude.{◌≡◌, ℕ, zero, suc, ◌+◌, ◌-◌, ◌≤◌, false, List, [], ◌∷◌, ◌++◌, length, Ok, Err, Result, slice_index_or}
+use Rattle.std.specs.Prelude.{◌≡◌, ℕ, ◌+◌, ◌-◌, ◌≤◌, List, [], ◌∷◌, ◌++◌, length, reverse, Ok, Err, Result}
 use Rattle.collector.specs.declared.Collector.{Collector}
 use Rattle.collector.specs.Pushing.{held, size}
 use Rattle.pattern.specs.declared.Code.{Code}
@@ -8,7 +8,7 @@ use Rattle.grammar.specs.declared.frame.Repeats.{Repeats}
 use Rattle.grammar.specs.declared.frame.Repeats.TheVariants.{Empty, One, Many}
 use Rattle.grammar.specs.declared.frame.Frame.{Frame}
 use Rattle.grammar.specs.declared.parser.Parser.{Parser}
-use Rattle.grammar.specs.Parse.{State, Step, framed, state, ends}
+use Rattle.grammar.specs.Parse.{State, Step, state, ends}
 use Rattle.grammar.specs.Parse.Step.{go, wrong}
 
 -- the entries are written behind those that were there
@@ -18,14 +18,9 @@ pub record Wrote {A : Type 0} (before after : Collector A) (xs : List A) : Type 
   pub same_size : size after ≡ size before
   pub lender : after.entries.ghost_name ≡ before.entries.ghost_name
 
--- the first k frames, the last of them first
-abbrev pub below : List Frame → ℕ → List Frame
-below fs zero = []
-below fs (suc k) = slice_index_or fs k (framed false Empty) ∷ below fs k
-
 -- the state that the memory stands for
-abbrev pub state_of : Parser → List Code → State
-state_of p cs = state (32 - p.depth) cs p.frame (below p.around p.depth)
+abbrev pub state_of : Parser → State
+state_of p = state (32 - length p.around.items) (held p.codes.now) p.frame (reverse p.around.items)
 
 -- the step that a result tells of
 abbrev pub told : Result (Unit {0}) Cause → State → Step
@@ -33,17 +28,26 @@ told (Ok u) s = go s
 told (Err c) s = wrong c
 
 -- there is room for the codes
-pub record Ready (p : Parser) (c : Collector Code) (cs : List Code) : Type 0 where
-  pub shallow : p.depth ≤ 32
-  pub room : c.used + length cs ≤ size c
+abbrev pub Room : Parser → List Code → Type 0
+Room p cs = p.codes.now.used + length cs ≤ size p.codes.now
+
+-- the codes are written, and nothing else changes
+pub record Emitted (before after : Parser) (cs : List Code) : Type 0 where
+  pub wrote : Wrote before.codes.now after.codes.now cs
+  pub holder : after.codes.ghost_name ≡ before.codes.ghost_name
+  pub frame : after.frame ≡ before.frame
+  pub around : after.around ≡ before.around
+
+-- the same collector, over the same slice
+pub record SameCodes (before after : Parser) : Type 0 where
+  pub same_size : size after.codes.now ≡ size before.codes.now
+  pub lender : after.codes.now.entries.ghost_name ≡ before.codes.now.entries.ghost_name
+  pub holder : after.codes.ghost_name ≡ before.codes.ghost_name
 
 -- the memory is what the step says
-pub record Moved (d : Step) (r : Result (Unit {0}) Cause) (p : Parser) (before after : Collector Code) : Type 0 where
-  pub meaning : d ≡ told r (state_of p (held after))
-  pub shallow : p.depth ≤ 32
-  pub within : after.used ≤ size after
-  pub same_size : size after ≡ size before
-  pub lender : after.entries.ghost_name ≡ before.entries.ghost_name
+pub record Moved (d : Step) (r : Result (Unit {0}) Cause) (before after : Parser) : Type 0 where
+  pub meaning : d ≡ told r (state_of after)
+  pub codes : SameCodes before after
 
 -- one for a chain that has a repeat
 abbrev pub full : Repeats → ℕ

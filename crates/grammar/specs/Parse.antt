@@ -45,11 +45,11 @@ more Empty = One
 more One = Many
 more Many = Many
 
--- there is no repeat
-abbrev pub none : Repeats → Bool
-none Empty = true
-none One = false
-none Many = false
+-- a repeat is wanted
+abbrev pub operand_in : Repeats → Result (Unit {0}) Cause
+operand_in Empty = Err MissingOperand
+operand_in One = Ok tt
+operand_in Many = Ok tt
 
 abbrev pub grown : Frame → Frame
 grown f = framed f.branches (more f.repeats)

@@ -12,15 +12,17 @@ ghost use Rattle.collector.specs.Pushing.{held, size};
 ghost use Rattle.grammar.specs.Law.{Understood};
 ghost use Rattle.grammar.specs.Parse.{parse, outcome};
 
+use self::frame::Frame;
 use self::parser::Parser;
+use arrayvec::ArrayVec;
 use collector::Collector;
 use items::Placed;
 use pattern::Code;
 use refusal::Refusal;
 
-mod emit;
 mod frame;
 mod parser;
+mod writing;
 
 // Reads the items of a text of that length, and collects the codes of the pattern.
 // Two entries for each item but one are always enough.
@@ -33,24 +35,13 @@ pub fn read_pattern(
     requires bound { 2 * length items.now ≤ size codes.old + 1 }
     ensures parsed { parse items.now text_length ≡ outcome result (held codes.new) }
     ensures law { Understood items.now text_length (held codes.new) result }
-    ensures within { codes.new.used ≤ size codes.new }
     ensures same { size codes.new ≡ size codes.old }
     ensures lender { codes.new.entries.ghost_name ≡ codes.old.entries.ghost_name }
 {
-    let mut parser = Parser::new();
-    for placed in items {
-        if let Err(cause) = parser.read(placed.item, codes) {
-            return Err(Refusal {
-                cause,
-                place: placed.place,
-            });
-        }
-    }
-    match parser.finish(codes) {
-        Ok(()) => Ok(()),
-        Err(cause) => Err(Refusal {
-            cause,
-            place: text_length,
-        }),
-    }
+    let mut parser = Parser {
+        codes,
+        frame: Frame::default(),
+        around: ArrayVec::new(),
+    };
+    parser.read_all(items, text_length)
 }

@@ -1,134 +1,132 @@
 // The parser: one item after another, with a stack of the patterns that it is in.
-ghost use Rattle.std.specs.Prelude.{◌≡◌, ◌+◌, ◌<◌, ◌≤◌, [], ◌∷◌, ◌++◌, Ok};
-ghost use Rattle.collector.specs.Pushing.{held, size};
-ghost use Rattle.grammar.specs.Memory.{Ready, state_of, Moved, load};
-ghost use Rattle.grammar.specs.Parse.{joins, ends, step, repeated, last, start};
+ghost use Rattle.std.specs.Prelude.{◌≤◌, length};
 
-use super::emit::emit;
-use super::frame::{Frame, Repeats};
+use crate::frame::{Frame, Repeats};
+use arrayvec::ArrayVec;
 use collector::Collector;
-use items::{Item, Sign};
+use items::{Item, Placed, Sign};
 use pattern::Code;
-use refusal::Cause;
+use refusal::{Cause, Refusal};
 
 // How deep parentheses may nest.
 const DEEPEST: usize = 32;
 
-// The innermost pattern, and the patterns around it, each as it will be once the group in it closes.
+// The codes so far, the innermost pattern, and the patterns around it, each as it will be once the group in it closes.
 #[derive(Drop)]
-pub struct Parser {
-    pub depth: usize,
+pub struct Parser<'c, 'e> {
+    pub codes: &'c mut Collector<'e, Code>,
     pub frame: Frame,
-    pub around: [Frame; DEEPEST],
+    pub around: ArrayVec<Frame, DEEPEST>,
+    ghost shallow: { length around.items ≤ 32 },
 }
 
-impl Parser {
-    pub(crate) fn new() -> Parser
-        ensures { (state_of result [] ≡ start) × (result.depth ≤ 32) }
+impl<'c, 'e> Parser<'c, 'e> {
+    ghost use Rattle.std.specs.Prelude.{◌≡◌, ◌+◌, ◌*◌, ◌<◌, [], ◌∷◌, ◌++◌, Ok};
+    ghost use Rattle.collector.specs.Pushing.{held, size};
+    ghost use Rattle.grammar.specs.Memory.{Room, state_of, Moved, SameCodes, load};
+    ghost use Rattle.grammar.specs.Parse.{joins, ends, step, repeated, last, run, outcome};
+
+    // All the items, of a text of that length.
+    pub(crate) fn read_all(&mut self, items: &[Placed], text_length: usize) -> Result<(), Refusal>
+        requires { load (state_of self.old) + 2 * length items.now ≤ size self.old.codes.now + 1 }
+        ensures told { run text_length (state_of self.old) items.now ≡ outcome result (held self.new.codes.now) }
+        ensures codes { SameCodes self.old self.new }
     {
-        Parser {
-            depth: 0,
-            frame: Frame::fresh(false),
-            around: [Frame {
-                branches: false,
-                repeats: Repeats::Empty,
-            }; DEEPEST],
+        for placed in items {
+            let place = placed.place;
+            self.read(placed.item)
+                .map_err(|cause| Refusal { cause, place })?;
         }
+        self.finish().map_err(|cause| Refusal {
+            cause,
+            place: text_length,
+        })
     }
 
-    pub(crate) fn read(&mut self, item: Item, codes: &mut Collector<'_, Code>) -> Result<(), Cause>
-        requires { (self.old.depth ≤ 32) × (codes.old.used ≤ size codes.old) × (load (state_of self.old (held codes.old)) < size codes.old) }
-        ensures { Moved (step (state_of self.old (held codes.old)) item) result self.new codes.old codes.new }
+    fn read(&mut self, item: Item) -> Result<(), Cause>
+        requires { load (state_of self.old) < size self.old.codes.now }
+        ensures { Moved (step (state_of self.old) item) result self.old self.new }
     {
         match item {
             Item::Atom => {
-                self.atom(codes);
+                self.atom();
                 Ok(())
             }
-            Item::Sign(Sign::Open) => self.opens(codes),
-            Item::Sign(Sign::Close) => self.closes(codes),
-            Item::Sign(Sign::Bar) => self.bar(codes),
-            Item::Sign(Sign::Star) => self.repeat(Code::Star, codes),
-            Item::Sign(Sign::Plus) => self.repeat(Code::Plus, codes),
-            Item::Sign(Sign::Query) => self.repeat(Code::Maybe, codes),
+            Item::Sign(Sign::Open) => self.opens(),
+            Item::Sign(Sign::Close) => self.closes(),
+            Item::Sign(Sign::Bar) => self.bar(),
+            Item::Sign(Sign::Star) => self.repeat(Code::Star),
+            Item::Sign(Sign::Plus) => self.repeat(Code::Plus),
+            Item::Sign(Sign::Query) => self.repeat(Code::Maybe),
         }
     }
 
     // At the end of the text.
-    pub(crate) fn finish(&mut self, codes: &mut Collector<'_, Code>) -> Result<(), Cause>
-        requires { (self.old.depth ≤ 32) × (codes.old.used ≤ size codes.old) × (load (state_of self.old (held codes.old)) ≤ size codes.old + 1) }
-        ensures { Moved (last (state_of self.old (held codes.old))) result self.new codes.old codes.new }
+    fn finish(&mut self) -> Result<(), Cause>
+        requires { load (state_of self.old) ≤ size self.old.codes.now + 1 }
+        ensures { Moved (last (state_of self.old)) result self.old self.new }
     {
-        if self.frame.repeats.is_empty() {
-            return Err(Cause::MissingOperand);
-        }
-        if self.depth > 0 {
+        self.frame.operand()?;
+        if !self.around.is_empty() {
             return Err(Cause::UnclosedGroup);
         }
-        self.frame.end(codes);
+        self.end();
         Ok(())
     }
 
-    fn atom(&mut self, codes: &mut Collector<'_, Code>)
-        requires { Ready self.old codes.old (joins self.old.frame.repeats ++ Code.Atom ∷ []) }
-        ensures { Moved (step (state_of self.old (held codes.old)) Item.Atom) (Ok tt) self.new codes.old codes.new }
+    fn atom(&mut self)
+        requires { Room self.old (joins self.old.frame.repeats ++ Code.Atom ∷ []) }
+        ensures { Moved (step (state_of self.old) Item.Atom) (Ok tt) self.old self.new }
     {
-        self.frame.repeats.join(codes);
-        emit(codes, Code::Atom);
+        self.join();
+        self.emit(Code::Atom);
         self.frame = self.frame.grow();
     }
 
-    fn opens(&mut self, codes: &mut Collector<'_, Code>) -> Result<(), Cause>
-        requires { Ready self.old codes.old (joins self.old.frame.repeats) }
-        ensures { Moved (step (state_of self.old (held codes.old)) (Item.Sign Sign.Open)) result self.new codes.old codes.new }
+    fn opens(&mut self) -> Result<(), Cause>
+        requires { Room self.old (joins self.old.frame.repeats) }
+        ensures { Moved (step (state_of self.old) (Item.Sign Sign.Open)) result self.old self.new }
     {
-        if self.depth == DEEPEST {
+        if self.around.is_full() {
             return Err(Cause::TooDeep);
         }
-        self.frame.repeats.join(codes);
-        self.around[self.depth] = self.frame.grow();
-        self.depth += 1;
-        self.frame = Frame::fresh(false);
+        self.join();
+        self.around.push(self.frame.grow());
+        self.frame = Frame::default();
         Ok(())
     }
 
-    fn closes(&mut self, codes: &mut Collector<'_, Code>) -> Result<(), Cause>
-        requires { Ready self.old codes.old (ends self.old.frame) }
-        ensures { Moved (step (state_of self.old (held codes.old)) (Item.Sign Sign.Close)) result self.new codes.old codes.new }
+    fn closes(&mut self) -> Result<(), Cause>
+        requires { Room self.old (ends self.old.frame) }
+        ensures { Moved (step (state_of self.old) (Item.Sign Sign.Close)) result self.old self.new }
     {
-        if self.frame.repeats.is_empty() {
-            return Err(Cause::MissingOperand);
-        }
-        if self.depth == 0 {
-            return Err(Cause::UnmatchedClosing);
-        }
-        self.frame.end(codes);
-        self.depth -= 1;
-        self.frame = self.around[self.depth];
+        self.frame.operand()?;
+        let outer = self.around.pop().ok_or(Cause::UnmatchedClosing)?;
+        self.end();
+        self.frame = outer;
         Ok(())
     }
 
-    fn bar(&mut self, codes: &mut Collector<'_, Code>) -> Result<(), Cause>
-        requires { Ready self.old codes.old (ends self.old.frame) }
-        ensures { Moved (step (state_of self.old (held codes.old)) (Item.Sign Sign.Bar)) result self.new codes.old codes.new }
+    fn bar(&mut self) -> Result<(), Cause>
+        requires { Room self.old (ends self.old.frame) }
+        ensures { Moved (step (state_of self.old) (Item.Sign Sign.Bar)) result self.old self.new }
     {
-        if self.frame.repeats.is_empty() {
-            return Err(Cause::MissingOperand);
-        }
-        self.frame.end(codes);
-        self.frame = Frame::fresh(true);
+        self.frame.operand()?;
+        self.end();
+        self.frame = Frame {
+            branches: true,
+            repeats: Repeats::Empty,
+        };
         Ok(())
     }
 
     // One of the signs * + ?, as its code.
-    fn repeat(&mut self, code: Code, codes: &mut Collector<'_, Code>) -> Result<(), Cause>
-        requires { Ready self.old codes.old (code ∷ []) }
-        ensures { Moved (repeated (state_of self.old (held codes.old)) code) result self.new codes.old codes.new }
+    fn repeat(&mut self, code: Code) -> Result<(), Cause>
+        requires { Room self.old (code ∷ []) }
+        ensures { Moved (repeated (state_of self.old) code) result self.old self.new }
     {
-        if self.frame.repeats.is_empty() {
-            return Err(Cause::MissingOperand);
-        }
-        emit(codes, code);
+        self.frame.operand()?;
+        self.emit(code);
         Ok(())
     }
 }

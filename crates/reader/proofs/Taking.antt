@@ -1,5 +1,5 @@
 -- One token taken in, and how far the text has been taken in.
-use Rattle.std.proofs.Common.{◌≡◌, ℕ, ◌+◌, ◌<◌, ◌≤◌, Bool, List, [], ◌∷◌, ◌++◌, length, take, drop, Ok, Err, sym, refl, ap, ◌∙◌, subst, append-nil, arith, length-drop}
+use Rattle.std.proofs.Common.{◌≡◌, ℕ, ◌+◌, ◌<◌, ◌≤◌, List, [], ◌∷◌, ◌++◌, length, take, drop, Ok, Err, Result, sym, refl, ap, ◌∙◌, subst, append-nil, arith, length-drop}
 use Rattle.std.proofs.lemmas.List.{drop-drop, drop_all}
 use Rattle.collector.specs.declared.Collector.{Collector}
 use Rattle.collector.specs.Pushing.{Pushed, held, size}
@@ -22,10 +22,10 @@ module _ {T : Type 0} (token : Token T) (p : ℕ) (ts : List T) (b : Collector P
       let n : b.used ≡ b.used + 0 = omega arith in
       subst (λ z. Took z p ts ts b b) (sym e) (record { tests = refl; wrote = record { entries = sym (append-nil (held b)); count = n; same_size = refl; lender = refl } })
 
-  pub took_sign : (a : Collector Placed) (r : Bool) → {s : OneSign} → token ≡ Sign s → b.used < size b → Pushed b a (sign s p) r → Took token p ts ts b a
+  pub took_sign : (a : Collector Placed) (r : Result (Unit {0}) Placed) → {s : OneSign} → token ≡ Sign s → b.used < size b → Pushed b a (sign s p) r → Took token p ts ts b a
   took_sign a r {s} e h w = subst (λ z. Took z p ts ts b a) (sym e) (record { tests = refl; wrote = pushed b a (sign s p) r h w })
 
-  pub took_atom : (us : List T) (a : Collector Placed) (r : Bool) (t : T) → token ≡ Atom t → b.used < size b → Pushed b a (at Item.Atom p) r → us ≡ take 63 (ts ++ t ∷ []) → Took token p ts us b a
+  pub took_atom : (us : List T) (a : Collector Placed) (r : Result (Unit {0}) Placed) (t : T) → token ≡ Atom t → b.used < size b → Pushed b a (at Item.Atom p) r → us ≡ take 63 (ts ++ t ∷ []) → Took token p ts us b a
   took_atom us a r t e h w k = subst (λ z. Took z p ts us b a) (sym e) (record { tests = k; wrote = pushed b a (at Item.Atom p) r h w })
 
 pub at_most_one : {T : Type 0} (t : Token T) (p : ℕ) → length (with_item t p []) ≤ 1

@@ -37,16 +37,18 @@ impl<T: Copy> Draft<T> {
         match token {
             Token::Space => {}
             Token::Sign(sign) => {
-                items.push(Placed {
+                let placed = Placed {
                     item: Item::Sign(sign),
                     place,
-                });
+                };
+                items.push(placed).unwrap();
             }
             Token::Atom(test) => {
-                items.push(Placed {
+                let placed = Placed {
                     item: Item::Atom,
                     place,
-                });
+                };
+                items.push(placed).unwrap();
                 self.keep(test);
             }
         }
