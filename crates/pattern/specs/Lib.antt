@@ -1,3 +1,4 @@
 pub mod Codes
+pub mod Names
 pub mod One
 pub mod Tree

@@ -3,6 +3,8 @@
 
 ghost use Rattle.pattern.specs.One.{OneTree};
 
+mod names;
+
 #[derive(Clone, Copy, Debug, Default, PartialEq, Eq)]
 pub enum Code {
     #[default]
@@ -15,8 +17,6 @@ pub enum Code {
 }
 
 // Codes have one tree at most, which the stack machine finds.
-pub fn codes_stand() -> u8
+pub fn codes_stand()
     ensures { OneTree }
-{
-    0
-}
+{}

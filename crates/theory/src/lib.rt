@@ -1,5 +1,5 @@
 // What a search means. The definitions stand in specs/ and their proofs in proofs/;
-// each function here names a theorem, and its answer says nothing.
+// each function here names a theorem by its contract.
 #![tactic(auto)]
 
 ghost use Rattle.std.specs.Prelude.{ℕ, Bool};
@@ -8,77 +8,59 @@ ghost use Rattle.theory.specs.Theorems.{Telling, Answering, Searches, WithoutWor
 ghost use Rattle.theory.specs.Trials.{Trials};
 
 // The symbols `start` to `end - 1` of a record.
-#[derive(Clone, Copy)]
+#[derive(Clone, Copy, Debug, Default, PartialEq, Eq)]
 pub struct Span {
     pub start: usize,
     pub end: usize,
 }
 
 // Which way a scan reads.
-#[derive(Clone, Copy)]
+#[derive(Clone, Copy, Debug, PartialEq, Eq)]
 pub enum Direction {
     Ahead,
     Back,
 }
 
 // The step rule tells which rows are words, ahead and back, whatever the symbols.
-pub fn words_stand<S>(_symbol: &S) -> u8
+pub fn words_stand<S>()
     ensures { Telling S }
-{
-    0
-}
+{}
 
 // A find and a list have one answer each: the leftmost, then longest.
-pub fn answers_stand<S>(_symbol: &S) -> u8
+pub fn answers_stand<S>()
     ensures { Answering S }
-{
-    0
-}
+{}
 
 // The scans give these answers, however sets of positions are held.
-pub fn searches_stand<S, Q>(_symbol: &S, _set: &Q) -> u8
+pub fn searches_stand<S, Q>()
     ensures { Searches S Q }
-{
-    0
-}
+{}
 
 // A pattern without words, as an empty draft gives one, can be searched with too.
-pub fn wordless_stands<S, Q>(_symbol: &S, _set: &Q) -> u8
+pub fn wordless_stands<S, Q>()
     ensures { WithoutWords S Q }
-{
-    0
-}
+{}
 
 // What the searches read.
-pub fn reads_stand<S, Q>(_symbol: &S, _set: &Q) -> u8
+pub fn reads_stand<S, Q>()
     ensures { (m : Machine S Q) → Reading S Q m }
-{
-    0
-}
+{}
 
 // Sets of positions may be held as numbers of any width that suffices.
-pub fn masks_stand<S>(_symbol: &S) -> u8
+pub fn masks_stand<S>()
     ensures { (passes : ℕ → S → Bool) → Masking S passes }
-{
-    0
-}
+{}
 
 // The positions can be made straight from the codes.
-pub fn sealing_stands() -> u8
+pub fn sealing_stands()
     ensures { Sealing }
-{
-    0
-}
+{}
 
 // Symbols that every test treats alike may share a class.
-pub fn classes_stand<S, Q>(_symbol: &S, _set: &Q) -> u8
+pub fn classes_stand<S, Q>()
     ensures { Alike S Q }
-{
-    0
-}
+{}
 
-pub fn trials_stand() -> u8
+pub fn trials_stand()
     ensures { Trials }
-{
-    0
-}
+{}

@@ -5,7 +5,7 @@ ghost use Rattle.trials.specs.Trials.{Trials};
 
 use reader::trials_stand as reading_stands;
 
-// Answers nothing of use: its contract says that the examples hold.
+// Its contract says that the examples hold.
 pub fn trials_stand()
     ensures { Trials }
 {
