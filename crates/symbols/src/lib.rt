@@ -5,6 +5,8 @@ ghost use Rattle.std.specs.Prelude.{◌≡◌, nat_eq};
 ghost use Rattle.symbols.specs.Tests.{passes_byte, passes_code, code_of};
 ghost use Rattle.symbols.specs.ByteSets.{no_byte, with_byte, with_range, others, Nothing, Adds, Inverts, between};
 
+mod printing;
+
 // A set of bytes: byte b is bit b mod 8 of the b div 8-th of `bits`.
 #[derive(Clone, Copy, Debug, Default, PartialEq, Eq)]
 pub struct ByteTest {
@@ -48,11 +50,14 @@ impl ByteTest {
         ensures is { self.new ≡ others self.old }
         ensures law { Inverts self.old self.new }
     {
-        for i in 0..self.bits.len() {
-            self.bits[i] ^= 255;
+        for part in self.bits.iter_mut() {
+            *part ^= 255;
         }
     }
 }
+
+// How many values an event of one kind can have.
+const VALUES: u32 = 65536;
 
 // Something that a bench reports. Searches do not look at the moment, in milliseconds.
 #[derive(Clone, Copy, Debug, PartialEq, Eq)]
@@ -67,7 +72,7 @@ impl Event {
     pub fn code(self) -> u32
         ensures { result ≡ code_of self }
     {
-        self.kind as u32 * 65536 + self.value as u32
+        u32::from(self.kind) * VALUES + u32::from(self.value)
     }
 }
 
@@ -89,6 +94,6 @@ impl EventTest {
     pub fn passes_code(&self, code: u32) -> bool
         ensures { result ≡ passes_code self.now code }
     {
-        (self.low <= code && code <= self.high) != self.inverted
+        (self.low..=self.high).contains(&code) != self.inverted
     }
 }
