@@ -1,7 +1,4 @@
 pub mod AtomLaws
-pub mod Steps
-pub mod Spanning
-pub mod Begun
 pub mod Numerals
 pub mod Valuing
 pub mod Coding

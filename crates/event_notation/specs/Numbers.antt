@@ -13,9 +13,9 @@ digits v w [] = Some (record { value = v; width = w })
 digits v w (b ∷ bs) = cond (digit b) (cond (w == 5) None (digits (v * 10 + (b - 48)) (w + 1) bs)) (Some (record { value = v; width = w }))
 
 -- a run of at most five digits within a text of the given length
-abbrev pub Inside : ℕ → ℕ → Option Number → Type 0
-Inside p len (Some n) = (n.width ≤ 5) × (p + n.width ≤ len)
-Inside p len None = Unit {0}
+abbrev pub Inside : ℕ → Option Number → Type 0
+Inside len (Some n) = (n.width ≤ 5) × (n.width ≤ len)
+Inside len None = Unit {0}
 
 -- a number that has a digit and is at most `most`; else a refusal at p, where its first digit stands or should
 abbrev pub bounded : ℕ → ℕ → Option Number → Result Number Refusal
@@ -27,6 +27,6 @@ abbrev pub number_at : ℕ → ℕ → List ℕ → Result Number Refusal
 number_at most p bs = bounded most p (digits 0 0 bs)
 
 -- a number within its bound that lies within a text of the given length
-abbrev pub Bounded : ℕ → ℕ → ℕ → Result Number Refusal → Type 0
-Bounded most p len (Ok n) = (n.value ≤ most) × (0 < n.width) × (n.width ≤ 5) × (p + n.width ≤ len)
-Bounded most p len (Err e) = Unit {0}
+abbrev pub Bounded : ℕ → ℕ → Result Number Refusal → Type 0
+Bounded most len (Ok n) = (n.value ≤ most) × (0 < n.width) × (n.width ≤ 5) × (n.width ≤ len)
+Bounded most len (Err e) = Unit {0}

@@ -3,8 +3,9 @@ use Rattle.std.specs.Prelude.{ℕ, ◌+◌, Bool, true, false, cond, List, [], �
 use Rattle.refusal.specs.declared.Cause.TheVariants.{NoItem}
 use Rattle.refusal.specs.declared.Refusal.{Refusal}
 use Rattle.items.specs.declared.Sign.TheVariants.{Open, Close, Bar, Star, Plus, Query}
-use Rattle.items.specs.declared.Token.TheVariants.{Space, Sign, Atom}
+use Rattle.items.specs.declared.Token.TheVariants.{Space}
 use Rattle.items.specs.declared.Lexeme.{Lexeme}
+use Rattle.items.specs.Lexemes.{signed, atom}
 use Rattle.symbols.specs.declared.EventTest.{EventTest}
 use Rattle.event_notation.specs.declared.Start.{Start}
 use Rattle.event_notation.specs.declared.Start.TheVariants.{Space as AtSpace, Sign as AtSign, Dot, Bang, Digit, Nothing}
@@ -30,15 +31,18 @@ start_of b =
 abbrev pub every : EventTest
 every = record { low = 0; high = 16777215; inverted = false }
 
--- the atom of some codes; behind ! that of all others
+-- the test of some codes; behind ! that of all others
+abbrev pub tested : Bool → Span → EventTest
+tested inverted s = record { low = s.low; high = s.high; inverted = inverted }
+
 abbrev pub named : Bool → Span → Lexeme EventTest
-named inverted s = record { token = Atom (record { low = s.low; high = s.high; inverted = inverted }); width = s.width + cond inverted 1 0 }
+named inverted s = atom (tested inverted s) (s.width + cond inverted 1 0)
 
 -- what stands at p, by its beginning and all bytes from p on
 abbrev pub begun : ℕ → List ℕ → Start → Result (Lexeme EventTest) Refusal
 begun p bs AtSpace = Ok (record { token = Space; width = 1 })
-begun p bs (AtSign s) = Ok (record { token = Sign s; width = 1 })
-begun p bs Dot = Ok (record { token = Atom every; width = 1 })
+begun p bs (AtSign s) = Ok (signed s)
+begun p bs Dot = Ok (atom every 1)
 begun p bs Bang = after (codes (p + 1) (drop 1 bs)) (λ s. Ok (named true s))
 begun p bs Digit = after (codes p bs) (λ s. Ok (named false s))
 begun p bs Nothing = Err (record { cause = NoItem; place = p })

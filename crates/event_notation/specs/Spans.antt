@@ -48,9 +48,9 @@ abbrev pub codes : ℕ → List ℕ → Result Span Refusal
 codes p bs = after (number_at 255 p bs) (λ kind. after (values (p + kind.width) (drop kind.width bs)) (coded kind))
 
 -- a span of numbers up to `most` that lies within a text of the given length
-abbrev pub Within : ℕ → ℕ → ℕ → Result Span Refusal → Type 0
-Within most p len (Ok s) = (s.low ≤ most) × (s.high ≤ most) × (p + s.width ≤ len)
-Within most p len (Err e) = Unit {0}
+abbrev pub Within : ℕ → ℕ → Result Span Refusal → Type 0
+Within most len (Ok s) = (s.low ≤ most) × (s.high ≤ most) × (s.width ≤ len)
+Within most len (Err e) = Unit {0}
 
 -- a span takes a byte or more
 abbrev pub Wide : Result Span Refusal → Type 0

@@ -5,17 +5,17 @@
 // values and - between. `start_of` tells by its first byte what an item is; `codes_at` reads what an atom names.
 #![tactic(auto)]
 
-ghost use Rattle.std.specs.Prelude.{◌≡◌, ◌+◌, ◌^◌, ◌<◌, length, drop};
+ghost use Rattle.std.specs.Prelude.{◌≡◌, ◌<◌, length, drop};
 ghost use Rattle.items.specs.Lexemes.{Within};
 ghost use Rattle.event_notation.specs.Law.{AtomLaw, Law};
 ghost use Rattle.event_notation.specs.Trials.{Trials};
-ghost use Rattle.event_notation.specs.Reading.{start_of, every, named, lexed};
+ghost use Rattle.event_notation.specs.Reading.{start_of, every, tested, lexed};
 
 pub mod laws;
 mod number;
 mod span;
 
-use items::{Lexeme, Notation, Sign, Token};
+use items::{Lexeme, Notation, Rest, Sign, Token};
 use refusal::{Cause, Refusal};
 use span::{Span, codes_at};
 use symbols::EventTest;
@@ -60,23 +60,14 @@ fn every() -> EventTest
     }
 }
 
-// The atom of some codes, or behind `!` of all others.
-fn named(codes: Span, inverted: bool) -> Lexeme<EventTest>
-    requires { codes.width + 1 < 2 ^ 64 }
-    ensures { result ≡ named inverted codes }
+// The test of some codes, or of all others.
+fn tested(codes: Span, inverted: bool) -> EventTest
+    ensures { result ≡ tested inverted codes }
 {
-    let width = if inverted {
-        codes.width + 1
-    } else {
-        codes.width
-    };
-    Lexeme {
-        token: Token::Atom(EventTest {
-            low: codes.low,
-            high: codes.high,
-            inverted,
-        }),
-        width,
+    EventTest {
+        low: codes.low,
+        high: codes.high,
+        inverted,
     }
 }
 
@@ -105,25 +96,33 @@ impl Notation for Events {
         ensures law { AtomLaw (drop place text.now) result }
         ensures stands { Law place (drop place text.now) result }
     {
-        match start_of(text[place]) {
-            Start::Space => Ok(Lexeme {
-                token: Token::Space,
-                width: 1,
-            }),
-            Start::Sign(sign) => Ok(Lexeme {
-                token: Token::Sign(sign),
-                width: 1,
-            }),
-            Start::Dot => Ok(Lexeme {
-                token: Token::Atom(every()),
-                width: 1,
-            }),
-            Start::Bang => Ok(named(codes_at(text, place + 1)?, true)),
-            Start::Digit => Ok(named(codes_at(text, place)?, false)),
-            Start::Nothing => Err(Refusal {
-                cause: Cause::NoItem,
-                place,
-            }),
+        read_item(Rest::of(text, place))
+    }
+}
+
+// The item in front.
+fn read_item(text: Rest<'_>) -> Result<Lexeme<EventTest>, Refusal>
+    ensures is { result ≡ lexed text.entry.place text.entry.bytes.now }
+    ensures within { Within 0 (length text.entry.bytes.now) result }
+{
+    let [first, ..] = text.bytes else {
+        return Err(text.refused(Cause::NoItem));
+    };
+    match start_of(*first) {
+        Start::Space => Ok(Lexeme {
+            token: Token::Space,
+            width: 1,
+        }),
+        Start::Sign(sign) => Ok(Lexeme::sign(sign)),
+        Start::Dot => Ok(Lexeme::atom(every(), 1)),
+        Start::Bang => {
+            let codes = codes_at(text.behind(1))?;
+            Ok(Lexeme::atom(tested(codes, true), codes.width + 1))
         }
+        Start::Digit => {
+            let codes = codes_at(text)?;
+            Ok(Lexeme::atom(tested(codes, false), codes.width))
+        }
+        Start::Nothing => Err(text.refused(Cause::NoItem)),
     }
 }

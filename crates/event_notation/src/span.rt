@@ -1,8 +1,9 @@
 // What an atom names behind its optional `!`: a kind, and every value, one value or a range of values.
-ghost use Rattle.std.specs.Prelude.{◌≡◌, ◌<◌, ◌≤◌, true, length, drop};
-ghost use Rattle.event_notation.specs.Spans.{begins, range, values, codes, Within, Wide};
+ghost use Rattle.std.specs.Prelude.{◌≡◌, length};
+ghost use Rattle.event_notation.specs.Spans.{range, values, codes, Within, Wide};
 
 use crate::number::number_at;
+use items::Rest;
 use refusal::{Cause, Refusal};
 
 const MOST_KIND: u32 = 255;
@@ -17,35 +18,23 @@ pub struct Span {
     pub width: usize,
 }
 
-// Whether the byte stands at the place.
-fn stands(text: &[u8], place: usize, byte: u8) -> bool
-    ensures is { result ≡ begins byte (drop place text.now) }
-    ensures inside { result ≡ true → place < length text.now }
+// One value in front, or two with - between.
+fn range_at(text: Rest<'_>) -> Result<Span, Refusal>
+    ensures is { result ≡ range text.entry.place text.entry.bytes.now }
+    ensures within { Within 65535 (length text.entry.bytes.now) result }
 {
-    place < text.len() && text[place] == byte
-}
-
-// One value at the place, or two with - between.
-fn range_at(text: &[u8], place: usize) -> Result<Span, Refusal>
-    requires { place ≤ length text.now }
-    ensures is { result ≡ range place (drop place text.now) }
-    ensures within { Within 65535 place (length text.now) result }
-{
-    let low = number_at(text, place, MOST_VALUE)?;
-    let end = place + low.width;
-    if !stands(text, end, b'-') {
+    let low = number_at(text, MOST_VALUE)?;
+    let behind = text.behind(low.width);
+    let [b'-', ..] = behind.bytes else {
         return Ok(Span {
             low: low.value,
             high: low.value,
             width: low.width,
         });
-    }
-    let high = number_at(text, end + 1, MOST_VALUE)?;
+    };
+    let high = number_at(behind.behind(1), MOST_VALUE)?;
     if high.value < low.value {
-        return Err(Refusal {
-            cause: Cause::ReversedRange,
-            place,
-        });
+        return Err(text.refused(Cause::ReversedRange));
     }
     Ok(Span {
         low: low.value,
@@ -54,20 +43,19 @@ fn range_at(text: &[u8], place: usize) -> Result<Span, Refusal>
     })
 }
 
-// The values behind a kind that ends before the place: every value, or those behind a colon.
-fn values_at(text: &[u8], place: usize) -> Result<Span, Refusal>
-    requires { place ≤ length text.now }
-    ensures is { result ≡ values place (drop place text.now) }
-    ensures within { Within 65535 place (length text.now) result }
+// The values in front of what stands behind a kind: every value, or those behind a colon.
+fn values_at(text: Rest<'_>) -> Result<Span, Refusal>
+    ensures is { result ≡ values text.entry.place text.entry.bytes.now }
+    ensures within { Within 65535 (length text.entry.bytes.now) result }
 {
-    if !stands(text, place, b':') {
+    let [b':', ..] = text.bytes else {
         return Ok(Span {
             low: 0,
             high: MOST_VALUE,
             width: 0,
         });
-    }
-    let values = range_at(text, place + 1)?;
+    };
+    let values = range_at(text.behind(1))?;
     Ok(Span {
         low: values.low,
         high: values.high,
@@ -75,15 +63,14 @@ fn values_at(text: &[u8], place: usize) -> Result<Span, Refusal>
     })
 }
 
-// The codes of the events that are named at the place: a kind and its values.
-pub fn codes_at(text: &[u8], place: usize) -> Result<Span, Refusal>
-    requires { place ≤ length text.now }
-    ensures is { result ≡ codes place (drop place text.now) }
-    ensures within { Within 16777215 place (length text.now) result }
+// The codes of the events that are named in front: a kind and its values.
+pub fn codes_at(text: Rest<'_>) -> Result<Span, Refusal>
+    ensures is { result ≡ codes text.entry.place text.entry.bytes.now }
+    ensures within { Within 16777215 (length text.entry.bytes.now) result }
     ensures wide { Wide result }
 {
-    let kind = number_at(text, place, MOST_KIND)?;
-    let values = values_at(text, place + kind.width)?;
+    let kind = number_at(text, MOST_KIND)?;
+    let values = values_at(text.behind(kind.width))?;
     let first = kind.value * 65_536;
     Ok(Span {
         low: first + values.low,
