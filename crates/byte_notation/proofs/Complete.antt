@@ -3,6 +3,7 @@ use Rattle.std.proofs.Common.{◌≡◌, ℕ, suc, ◌+◌, ◌-◌, ◌<◌, �
 use Rattle.std.proofs.lemmas.List.{drop_at}
 use Rattle.std.proofs.lemmas.Bool.{eq-eqb, ne_eqb, le-ltb, lt-ltb, eqb-true, or_cases, or_parts, cond-false}
 use borrow.Author.Tests.{clash}
+use Rattle.items.specs.Lexemes.{signed, atom}
 use Rattle.items.specs.declared.Sign.{Sign}
 use Rattle.items.specs.declared.Sign.TheVariants.{Open, Close, Bar, Star, Plus, Query}
 use Rattle.refusal.specs.declared.Cause.{Cause}
@@ -13,13 +14,11 @@ use Rattle.symbols.specs.ByteSets.{no_byte}
 use Rattle.byte_notation.specs.declared.classes.ByteRange.{ByteRange}
 use Rattle.byte_notation.specs.declared.brackets.State.{State}
 use Rattle.byte_notation.specs.declared.brackets.State.TheVariants.{NoMember, Members, Closed}
-use Rattle.byte_notation.specs.declared.brackets.Member.{Member as Readable}
-use Rattle.byte_notation.specs.declared.brackets.Member.TheVariants as read
 use Rattle.byte_notation.specs.declared.brackets.Bracket.{Bracket}
 use Rattle.byte_notation.specs.Atoms.{one_of, NoRange, Member, class, range, byte, MayBegin, Run, none, more, Opened, straight, caret, Escape, line_feed, tab, carriage_return, itself, Atom, dot, plain, escaped, bracket, Refused, nothing_begins, escape_last, escape_unknown, unclosed, reversed}
-use Rattle.byte_notation.specs.Brackets as b
+use Rattle.byte_notation.specs.Brackets as read
 use Rattle.byte_notation.specs.Brackets.{after, range_end, ranged, class_else, member_at, width, with_ranges, with_member, proceed, members, bracketed, tested}
-use Rattle.byte_notation.specs.Lexing.{lexed, item, refused, signed, atom, only_byte, any_byte, escape_of, escaped as escaped_as}
+use Rattle.byte_notation.specs.Lexing.{lexed, item, refused, only_byte, any_byte, escape_of, escaped as escaped_as}
 use Rattle.byte_notation.specs.Law.{sign_byte, Passes}
 use Rattle.byte_notation.specs.Classes.{names, span, starts, class_width}
 use Rattle.byte_notation.proofs.Classed.{class_complete, class_none}
@@ -32,7 +31,7 @@ pub record Found (p : ℕ) (text behind : List ℕ) (rs : List ByteRange) : Type
   pub first : ℕ
   pub rest : List ℕ
   pub split : text ≡ first ∷ rest
-  pub member : Readable
+  pub member : read.Member
   pub is : member_at p first rest ≡ Ok member
   pub left : drop (width member - 1) rest ≡ behind
   pub wide : width member + length behind ≡ length text
@@ -108,11 +107,11 @@ step : (o : ℕ) (s : State) (k : ByteTest) (p : ℕ) (text mid : List ℕ) (rs 
     → members o s k p 0 text ≡ members o Members (with_ranges k rs) (p + width f.member) 0 mid
 step o s k p text mid rs mb f =
     let m = f.member in
-    let cont : Readable → Result Bracket Refusal = λ x. members o Members (with_member k x) (p + 1) (width x - 1) f.rest in
+    let cont : read.Member → Result Bracket Refusal = λ x. members o Members (with_member k x) (p + 1) (width x - 1) f.rest in
     let w : 0 < width f.member = width_positive f.member in
     let e : p + 1 + (width f.member - 1) ≡ p + width f.member = omega arith in
     ap (members o s k p 0) f.split
-    ∙ (λ i. proceed (begun s f.first f.rest text f.split mb i) (record { test = k; end = p + 1 }) (f.is i) cont)
+    ∙ (λ i. proceed (begun s f.first f.rest text f.split mb i) (record { test = k; width = p + 1 - o }) (f.is i) cont)
     ∙ skip o Members (with_member k m) (p + 1) (width m - 1) f.rest
     ∙ (λ i. members o Members (f.adds k i) (e i) 0 (f.left i))
 
@@ -139,17 +138,17 @@ reversed_member p low high rest d h =
 reversed_read : (o : ℕ) (s : State) (k : ByteTest) (p low high : ℕ) (rest : List ℕ) → MayBegin s (low ∷ 45 ∷ high ∷ rest) → (high ≡ 93 → ⊥) → high < low
     → members o s k p 0 (low ∷ 45 ∷ high ∷ rest) ≡ Err (record { cause = ReversedRange; place = p })
 reversed_read o s k p low high rest mb d h =
-    let cont : Readable → Result Bracket Refusal = λ x. members o Members (with_member k x) (p + 1) (width x - 1) (45 ∷ high ∷ rest) in
-    (λ i. proceed (begun s low (45 ∷ high ∷ rest) (low ∷ 45 ∷ high ∷ rest) refl mb i) (record { test = k; end = p + 1 }) (reversed_member p low high rest d h i) cont)
+    let cont : read.Member → Result Bracket Refusal = λ x. members o Members (with_member k x) (p + 1) (width x - 1) (45 ∷ high ∷ rest) in
+    (λ i. proceed (begun s low (45 ∷ high ∷ rest) (low ∷ 45 ∷ high ∷ rest) refl mb i) (record { test = k; width = p + 1 - o }) (reversed_member p low high rest d h i) cont)
 
 -- where the members of a bracket begin, and what it reads as
 pub record Entered (place : ℕ) (inverted : Bool) (text inner : List ℕ) : Type 0 where
   pub start : ℕ
   pub past : place < start
   pub ends : start + length inner ≡ place + length text
-  pub is : lexed place text ≡ bracketed place inverted (members place NoMember no_byte start 0 inner)
+  pub is : lexed place text ≡ bracketed inverted (members place NoMember no_byte start 0 inner)
 
-no_caret : (inner : List ℕ) → ((rest : List ℕ) → inner ≡ 94 ∷ rest → ⊥) → b.caret inner ≡ false
+no_caret : (inner : List ℕ) → ((rest : List ℕ) → inner ≡ 94 ∷ rest → ⊥) → read.caret inner ≡ false
 no_caret [] d = refl
 no_caret (c ∷ inner) d = ne_eqb c 94 (λ e. d inner (ap (λ n. n ∷ inner) e))
 
@@ -159,7 +158,7 @@ entered place (straight {inner} d) =
       start = place + 1;
       past = omega arith;
       ends = omega arith;
-      is = ap (λ c. bracketed place c (members place NoMember no_byte (place + 1) (cond c 1 0) inner)) (no_caret inner d);
+      is = ap (λ c. bracketed c (members place NoMember no_byte (place + 1) (cond c 1 0) inner)) (no_caret inner d);
     }
 entered place (caret {inner}) = record { start = place + 1 + 1; past = omega arith; ends = omega arith; is = refl }
 
@@ -240,7 +239,7 @@ atoms_read place (bracket inverted {text} {inner} {behind} {rs} o r) =
     let e : q + suc (length behind) ≡ n.start + length inner = omega arith in (
       tested inverted (with_ranges no_byte rs),
       q + 1 - place,
-      n.is ∙ ap (bracketed place inverted) (run_read r place no_byte n.start q e),
+      n.is ∙ ap (bracketed inverted) (run_read r place no_byte n.start q e),
       omega arith,
       bracket_passes inverted rs,
     )
@@ -251,8 +250,8 @@ refusals_read place escape_last = refl
 refusals_read place (escape_unknown c {rest} d) = ap (escaped_as place) (unknown_escape c d)
 refusals_read place (unclosed {inverted} {text} {inner} {s} {rs} o r) =
     let n = entered place o in
-    n.is ∙ ap (bracketed place inverted) (run_read r place no_byte n.start (n.start + length inner) (omega arith))
+    n.is ∙ ap (bracketed inverted) (run_read r place no_byte n.start (n.start + length inner) (omega arith))
 refusals_read place (reversed {inverted} {text} {inner} {s} {rs} low high {rest} at o r mb d h e) =
     let n = entered place o in
     let ends = n.ends in
-    n.is ∙ ap (bracketed place inverted) (run_read r place no_byte n.start at (omega arith) ∙ reversed_read place s (with_ranges no_byte rs) at low high rest mb d h)
+    n.is ∙ ap (bracketed inverted) (run_read r place no_byte n.start at (omega arith) ∙ reversed_read place s (with_ranges no_byte rs) at low high rest mb d h)

@@ -1,91 +1,29 @@
 -- One step of the bracket reader after another.
-use Rattle.std.proofs.Common.{◌≡◌, ℕ, zero, suc, ◌+◌, ◌-◌, ◌<◌, ◌≤◌, Bool, true, false, cond, eqb, ltb, List, [], ◌∷◌, length, get_or, drop, Some, None, Ok, Err, Option, Result, sym, refl, ap, ◌∙◌, subst, ⊎_elim, add-zero, arith}
-use Rattle.std.proofs.lemmas.List.{drop-drop, at_drop_more, at_drop_all}
-use Rattle.std.proofs.lemmas.Bool.{cases_lt, eq-eqb, ne_eqb, le-ltb, lt-ltb}
-use Rattle.refusal.specs.declared.Cause.TheVariants.{UnclosedBracket, ReversedRange}
+use Rattle.std.proofs.Common.{◌≡◌, ℕ, zero, suc, ◌+◌, ◌-◌, ◌<◌, ◌≤◌, Bool, true, false, cond, eqb, ltb, List, [], ◌∷◌, length, get_or, drop, Some, None, Ok, Err, Result, sym, refl, ap, ◌∙◌, subst, add-zero, arith}
+use Rattle.std.proofs.lemmas.List.{drop-drop, drop_more, at_drop_more}
+use Rattle.std.proofs.lemmas.Bool.{le-ltb}
+use Rattle.refusal.specs.declared.Cause.TheVariants.{ReversedRange}
 use Rattle.refusal.specs.declared.Refusal.{Refusal}
 use Rattle.symbols.specs.declared.ByteTest.{ByteTest}
-use Rattle.symbols.specs.ByteSets.{no_byte, with_range}
-use Rattle.byte_notation.specs.declared.classes.ByteRange.{ByteRange}
+use Rattle.symbols.specs.ByteSets.{no_byte}
 use Rattle.byte_notation.specs.declared.brackets.State.{State}
 use Rattle.byte_notation.specs.declared.brackets.State.TheVariants.{NoMember, Members, Closed}
-use Rattle.byte_notation.specs.declared.brackets.Member.{Member}
-use Rattle.byte_notation.specs.declared.brackets.Member.TheVariants.{Class, Range, Byte}
-use Rattle.byte_notation.specs.declared.brackets.Bracket.{Bracket}
 use Rattle.byte_notation.specs.Classes.{class_at, span}
-use Rattle.byte_notation.specs.Brackets.{after, range_end, ranged, class_else, member_at, width, with_ranges, with_member, proceed, members, caret, bracketed, bracket}
+use Rattle.byte_notation.specs.Brackets.{Member, Class, Range, Byte, after, range_end, ranged, class_else, member_at, width, with_member, with_read, taken, behind, proceed, members, caret, bracketed, bracket}
 
--- the end of a range, with two bytes behind its first one, or fewer
-end_of_two : (ts : List ℕ) (p : ℕ) → p + 2 < length ts
-    → range_end (drop (p + 1) ts) ≡ cond (eqb (get_or ts (p + 1) 0) 45) (cond (eqb (get_or ts (p + 2) 0) 93) None (Some (get_or ts (p + 2) 0))) None
-end_of_two ts p h =
-    let k : p + 1 < length ts = omega arith in
-    let e : p + 1 + 1 ≡ p + 2 = omega arith in
-    at_drop_more range_end ts (p + 1) 0 k
-    ∙ ap (λ n. range_end (get_or ts (p + 1) 0 ∷ drop n ts)) e
-    ∙ at_drop_more (λ l. range_end (get_or ts (p + 1) 0 ∷ l)) ts (p + 2) 0 h
-
-pub end_two : (ts : List ℕ) (p : ℕ) → p + 2 < length ts → get_or ts (p + 1) 0 ≡ 45 → (get_or ts (p + 2) 0 ≡ 93 → ⊥) → range_end (drop (p + 1) ts) ≡ Some (get_or ts (p + 2) 0)
-end_two ts p h e d =
-    end_of_two ts p h
-    ∙ (λ i. cond (eq-eqb (get_or ts (p + 1) 0) 45 e i) (cond (ne_eqb (get_or ts (p + 2) 0) 93 d i) None (Some (get_or ts (p + 2) 0))) None)
-
-pub end_plain : (ts : List ℕ) (p : ℕ) → p + 2 < length ts → (get_or ts (p + 1) 0 ≡ 45 → ⊥) → range_end (drop (p + 1) ts) ≡ None
-end_plain ts p h d =
-    end_of_two ts p h
-    ∙ ap (λ b. cond b (cond (eqb (get_or ts (p + 2) 0) 93) None (Some (get_or ts (p + 2) 0))) None) (ne_eqb (get_or ts (p + 1) 0) 45 d)
-
-none_twice : (b : Bool) (o : Option ℕ) → cond b (cond true None o) None ≡ None
-none_twice true o = refl
-none_twice false o = refl
-
-pub end_bracket : (ts : List ℕ) (p : ℕ) → p + 2 < length ts → get_or ts (p + 2) 0 ≡ 93 → range_end (drop (p + 1) ts) ≡ None
-end_bracket ts p h e =
-    end_of_two ts p h
-    ∙ ap (λ b. cond (eqb (get_or ts (p + 1) 0) 45) (cond b None (Some (get_or ts (p + 2) 0))) None) (eq-eqb (get_or ts (p + 2) 0) 93 e)
-    ∙ none_twice (eqb (get_or ts (p + 1) 0) 45) (Some (get_or ts (p + 2) 0))
-
-pub end_of_few : (ts : List ℕ) (p : ℕ) → length ts ≤ p + 2 → range_end (drop (p + 1) ts) ≡ None
-end_of_few ts p h =
-    ⊎_elim
-    (λ (k : p + 1 < length ts).
-    let l : length ts ≤ p + 1 + 1 = omega arith in
-    at_drop_more range_end ts (p + 1) 0 k ∙ at_drop_all (λ l. range_end (get_or ts (p + 1) 0 ∷ l)) ts (p + 1 + 1) l)
-    (λ (k : length ts ≤ p + 1). at_drop_all range_end ts (p + 1) k)
-    (cases_lt (p + 1) (length ts))
-
--- a member is a class, or else a byte or a range
-pub member_class : (ts : List ℕ) (p c : ℕ) → p < length ts → Some c ≡ class_at (drop p ts) → Ok (Class c) ≡ member_at p (get_or ts p 0) (drop (p + 1) ts)
-member_class ts p c h e =
-    ap (λ o. class_else o (ranged p (get_or ts p 0) (range_end (drop (p + 1) ts)))) (e ∙ at_drop_more class_at ts p 0 h)
-
-member_plain : (ts : List ℕ) (p : ℕ) (o : Option ℕ) (r : Result Member Refusal) → p < length ts → None ≡ class_at (drop p ts) → o ≡ range_end (drop (p + 1) ts) → r ≡ ranged p (get_or ts p 0) o
-    → r ≡ member_at p (get_or ts p 0) (drop (p + 1) ts)
-member_plain ts p o r h n e f =
-    f
-    ∙ ap (ranged p (get_or ts p 0)) e
-    ∙ ap (λ c. class_else c (ranged p (get_or ts p 0) (range_end (drop (p + 1) ts)))) (n ∙ at_drop_more class_at ts p 0 h)
-
--- of a plain member, which is read at q, where the cursor still stands
-pub member_byte : (ts : List ℕ) (p q : ℕ) → p < length ts → q ≡ p → None ≡ class_at (drop p ts) → None ≡ range_end (drop (q + 1) ts) → Ok (Byte (get_or ts q 0)) ≡ member_at p (get_or ts p 0) (drop (p + 1) ts)
-member_byte ts p q h s n e =
-    ap (λ x. Ok (Byte (get_or ts x 0))) s ∙ member_plain ts p None (Ok (Byte (get_or ts p 0))) h n (e ∙ ap (λ x. range_end (drop (x + 1) ts)) s) refl
-
-pub member_range : (ts : List ℕ) (p q high : ℕ) → p < length ts → q ≡ p → None ≡ class_at (drop p ts) → Some high ≡ range_end (drop (q + 1) ts) → get_or ts q 0 ≤ high
-    → Ok (Range (span (get_or ts q 0) high)) ≡ member_at p (get_or ts p 0) (drop (p + 1) ts)
-member_range ts p q high h s n e le =
-    let lf : ltb high (get_or ts p 0) ≡ false = le-ltb high (get_or ts p 0) (subst (λ x. get_or ts x 0 ≤ high) s le) in
-    ap (λ x. Ok (Range (span (get_or ts x 0) high))) s
-    ∙ member_plain ts p (Some high) (Ok (Range (span (get_or ts p 0) high))) h n (e ∙ ap (λ x. range_end (drop (x + 1) ts)) s)
-    (ap (λ b. cond b (Err (record { cause = ReversedRange; place = p })) (Ok (Range (span (get_or ts p 0) high)))) (sym lf))
-
-pub member_reversed : (ts : List ℕ) (p q high : ℕ) → p < length ts → q ≡ p → None ≡ class_at (drop p ts) → Some high ≡ range_end (drop (q + 1) ts) → high < get_or ts q 0
-    → Err (record { cause = ReversedRange; place = q }) ≡ member_at p (get_or ts p 0) (drop (p + 1) ts)
-member_reversed ts p q high h s n e lt =
-    let lf : ltb high (get_or ts p 0) ≡ true = lt-ltb high (get_or ts p 0) (subst (λ x. high < get_or ts x 0) s lt) in
-    ap (λ x. Err (record { cause = ReversedRange; place = x })) s
-    ∙ member_plain ts p (Some high) (Err (record { cause = ReversedRange; place = p })) h n (e ∙ ap (λ x. range_end (drop (x + 1) ts)) s)
-    (ap (λ b. cond b (Err (record { cause = ReversedRange; place = p })) (Ok (Range (span (get_or ts p 0) high)))) (sym lf))
+-- a range, which is no class, takes three bytes
+pub range_behind : (p q : ℕ) (ts left : List ℕ) (high : ℕ) → q < length ts → class_at (drop q ts) ≡ None → left ≡ drop q ts → Some high ≡ range_end (drop 1 left) → get_or left 0 0 ≤ high
+    → behind (member_at p (get_or ts q 0) (drop (q + 1) ts)) q ≡ q + 3
+range_behind p q ts left high h n l e le =
+    let b = get_or ts q 0 in
+    let rest = drop (q + 1) ts in
+    let split : left ≡ b ∷ rest = l ∙ drop_more ts q 0 h in
+    let ends : range_end rest ≡ Some high = sym (e ∙ ap (λ x. range_end (drop 1 x)) split) in
+    let low : ltb high b ≡ false = le-ltb high b (subst (λ x. get_or x 0 0 ≤ high) split le) in
+    let none : class_at (b ∷ rest) ≡ None = ap class_at (sym (drop_more ts q 0 h)) ∙ n in
+    ap (λ m. behind m q)
+    ((λ i. class_else (none i) (ranged p b (ends i)))
+    ∙ ap (λ c. cond c (Err (record { cause = ReversedRange; place = p })) (Ok (Range (span b high)))) low)
 
 pub width_positive : (m : Member) → 0 < width m
 width_positive (Class c) = omega arith
@@ -110,53 +48,47 @@ read_or_closed Members b d = cases (eqb b 93) d
     cases false d = refl
 read_or_closed Closed b d = absurd (d refl)
 
-pub closes : (o : ℕ) (s : State) (t : ByteTest) (p : ℕ) (ts : List ℕ) → p < length ts → after s (get_or ts p 0) ≡ Closed
-    → members o s t p 0 (drop p ts) ≡ Ok (record { test = t; end = p + 1 })
-closes o s t p ts h e =
-    at_drop_more (members o s t p 0) ts p 0 h
-    ∙ ap (λ x. proceed x (record { test = t; end = p + 1 }) (member_at p (get_or ts p 0) (drop (p + 1) ts)) (λ m. members o Members (with_member t m) (p + 1) (width m - 1) (drop (p + 1) ts))) e
+-- a member is read at p, where the q-th byte stands
+module _ (o : ℕ) (s : State) (t : ByteTest) (p q : ℕ) (ts : List ℕ) (h : q < length ts) (a : after s (get_or ts q 0) ≡ Members) where
+  goes_on_lem : (r : Result Member Refusal) → r ≡ member_at p (get_or ts q 0) (drop (q + 1) ts)
+      → members o s t p 0 (drop q ts) ≡ proceed Members (record { test = t; width = p + 1 - o }) r (λ m. members o Members (with_member t m) (p + 1) (width m - 1) (drop (q + 1) ts))
+  goes_on_lem r f =
+      at_drop_more (members o s t p 0) ts q 0 h
+      ∙ (λ i. proceed (a i) (record { test = t; width = p + 1 - o }) (sym f i) (λ m. members o Members (with_member t m) (p + 1) (width m - 1) (drop (q + 1) ts)))
 
-goes_on_lem : (o : ℕ) (s : State) (t : ByteTest) (p : ℕ) (ts : List ℕ) (r : Result Member Refusal) → p < length ts → after s (get_or ts p 0) ≡ Members → r ≡ member_at p (get_or ts p 0) (drop (p + 1) ts)
-    → members o s t p 0 (drop p ts) ≡ proceed Members (record { test = t; end = p + 1 }) r (λ m. members o Members (with_member t m) (p + 1) (width m - 1) (drop (p + 1) ts))
-goes_on_lem o s t p ts r h e f =
-    at_drop_more (members o s t p 0) ts p 0 h
-    ∙ (λ i. proceed (e i) (record { test = t; end = p + 1 }) (sym f i) (λ m. members o Members (with_member t m) (p + 1) (width m - 1) (drop (p + 1) ts)))
+  one_more : (m : Member) → Ok m ≡ member_at p (get_or ts q 0) (drop (q + 1) ts)
+      → members o s t p 0 (drop q ts) ≡ members o Members (with_member t m) (p + width m) 0 (drop (q + width m) ts)
+  one_more m f =
+      let w : 0 < width m = width_positive m in
+      let e : p + 1 + (width m - 1) ≡ p + width m = omega arith in
+      let k : q + 1 + (width m - 1) ≡ q + width m = omega arith in
+      goes_on_lem (Ok m) f
+      ∙ skip o Members (with_member t m) (p + 1) (width m - 1) (drop (q + 1) ts)
+      ∙ ap (members o Members (with_member t m) (p + 1 + (width m - 1)) 0) (drop-drop (width m - 1) (q + 1) ts)
+      ∙ (λ i. members o Members (with_member t m) (e i) 0 (drop (k i) ts))
 
-pub refuses : (o : ℕ) (s : State) (t : ByteTest) (p : ℕ) (ts : List ℕ) (e : Refusal) → p < length ts → after s (get_or ts p 0) ≡ Members → Err e ≡ member_at p (get_or ts p 0) (drop (p + 1) ts)
-    → members o s t p 0 (drop p ts) ≡ Err e
-refuses o s t p ts e h a f = goes_on_lem o s t p ts (Err e) h a f
+  pub taken_more : (r : Result Member Refusal) → r ≡ member_at p (get_or ts q 0) (drop (q + 1) ts) → Ok tt ≡ taken r
+      → members o s t p 0 (drop q ts) ≡ members o Members (with_read t r) (behind r p) 0 (drop (behind r q) ts)
+  taken_more (Ok m) f e = one_more m f
+  taken_more (Err x) f e = cc
 
-pub one_more : (o : ℕ) (s : State) (t : ByteTest) (p : ℕ) (ts : List ℕ) (m : Member) → p < length ts → after s (get_or ts p 0) ≡ Members → Ok m ≡ member_at p (get_or ts p 0) (drop (p + 1) ts)
-    → members o s t p 0 (drop p ts) ≡ members o Members (with_member t m) (p + width m) 0 (drop (p + width m) ts)
-one_more o s t p ts m h a f =
-    let w : 0 < width m = width_positive m in
-    let e : p + 1 + (width m - 1) ≡ p + width m = omega arith in
-    goes_on_lem o s t p ts (Ok m) h a f
-    ∙ skip o Members (with_member t m) (p + 1) (width m - 1) (drop (p + 1) ts)
-    ∙ ap (members o Members (with_member t m) (p + 1 + (width m - 1)) 0) (drop-drop (width m - 1) (p + 1) ts)
-    ∙ ap (λ n. members o Members (with_member t m) n 0 (drop n ts)) e
+  pub taken_none : (r : Result Member Refusal) → r ≡ member_at p (get_or ts q 0) (drop (q + 1) ts) → (x : Refusal) → Err x ≡ taken r → members o s t p 0 (drop q ts) ≡ Err x
+  taken_none (Ok m) f x e = cc
+  taken_none (Err y) f x e = goes_on_lem (Err y) f ∙ (let k : y ≡ x = cc in ap Err k)
 
-pub unclosed : (o : ℕ) (s : State) (t : ByteTest) (p : ℕ) (ts : List ℕ) → length ts ≤ p → members o s t p 0 (drop p ts) ≡ Err (record { cause = UnclosedBracket; place = o })
-unclosed o s t p ts h = at_drop_all (members o s t p 0) ts p h
+pub behind_more : (r : Result Member Refusal) (q : ℕ) → q ≤ behind r q
+behind_more (Ok m) q = omega arith
+behind_more (Err e) q = omega arith
 
--- one range after another
-pub ranges_more : (t : ByteTest) (rs : List ByteRange) (i : ℕ) (d : ByteRange) → i < length rs → with_ranges t (drop i rs) ≡ with_ranges (with_range t (get_or rs i d).low (get_or rs i d).high) (drop (i + 1) rs)
-ranges_more t rs i d h = at_drop_more (with_ranges t) rs i d h
-
-pub ranges_all : (t : ByteTest) (rs : List ByteRange) (i : ℕ) → length rs ≤ i → with_ranges t (drop i rs) ≡ t
-ranges_all t rs i h = at_drop_all (with_ranges t) rs i h
-
-pub caret_here : (ts : List ℕ) (p : ℕ) → p < length ts → caret (drop p ts) ≡ eqb (get_or ts p 0) 94
-caret_here ts p h = at_drop_more caret ts p 0 h
-
-pub caret_end : (ts : List ℕ) (p : ℕ) → length ts ≤ p → caret (drop p ts) ≡ false
-caret_end ts p h = at_drop_all caret ts p h
+pub behind_sum : (r : Result Member Refusal) (p q : ℕ) → behind r (p + q) ≡ p + behind r q
+behind_sum (Ok m) p q = omega arith
+behind_sum (Err e) p q = refl
 
 -- a bracket from its opening on
-pub whole : (p start : ℕ) (inverted : Bool) (ts : List ℕ) (r : Result Bracket Refusal) → inverted ≡ caret (drop (p + 1) ts) → start ≡ p + 1 + cond inverted 1 0
-    → r ≡ members p NoMember no_byte start 0 (drop start ts) → bracketed p inverted r ≡ bracket p (drop (p + 1) ts)
-whole p start inverted ts r c s e =
-    ap (bracketed p inverted) (e ∙ ap (λ n. members p NoMember no_byte n 0 (drop n ts)) s
-    ∙ ap (members p NoMember no_byte (p + 1 + cond inverted 1 0) 0) (sym (drop-drop (cond inverted 1 0) (p + 1) ts))
-    ∙ sym (skip p NoMember no_byte (p + 1) (cond inverted 1 0) (drop (p + 1) ts)))
-    ∙ ap (λ b. bracketed p b (members p NoMember no_byte (p + 1) (cond b 1 0) (drop (p + 1) ts))) c
+pub whole : (p : ℕ) (inverted : Bool) (ts : List ℕ) → inverted ≡ caret (drop 1 ts)
+    → bracketed inverted (members p NoMember no_byte (p + (1 + cond inverted 1 0)) 0 (drop (1 + cond inverted 1 0) ts)) ≡ bracket p (drop 1 ts)
+whole p inverted ts c =
+    let k : ℕ = cond inverted 1 0 in
+    let e : p + (1 + k) ≡ p + 1 + k = omega arith in
+    ap (bracketed inverted) ((λ i. members p NoMember no_byte (e i) 0 (sym (drop-drop k 1 ts) i)) ∙ sym (skip p NoMember no_byte (p + 1) k (drop 1 ts)))
+    ∙ ap (λ b. bracketed b (members p NoMember no_byte (p + 1) (cond b 1 0) (drop 1 ts))) c

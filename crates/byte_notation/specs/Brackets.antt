@@ -1,18 +1,22 @@
 -- What a bracket reads as: its members one after another, and at its end the bytes that pass.
-use Rattle.std.specs.Prelude.{ℕ, zero, suc, ◌+◌, ◌-◌, Bool, false, cond, List, [], ◌∷◌, Some, None, Ok, Err, Option, Result, ◌==◌, nat_lt, slice_index_or}
+use Rattle.std.specs.Prelude.{ℕ, zero, suc, ◌+◌, ◌-◌, Bool, false, cond, List, [], ◌∷◌, Some, None, Ok, Err, Option, Result, ◌==◌, nat_lt}
 use Rattle.refusal.specs.declared.Cause.TheVariants.{UnclosedBracket, ReversedRange}
 use Rattle.refusal.specs.declared.Refusal.{Refusal}
 use Rattle.items.specs.declared.Lexeme.{Lexeme}
-use Rattle.items.specs.declared.Token.TheVariants.{Atom}
+use Rattle.items.specs.Lexemes.{atom}
 use Rattle.symbols.specs.declared.ByteTest.{ByteTest}
 use Rattle.symbols.specs.ByteSets.{no_byte, with_byte, with_range, others}
 use Rattle.byte_notation.specs.declared.classes.ByteRange.{ByteRange}
 use Rattle.byte_notation.specs.declared.brackets.State.{State}
 use Rattle.byte_notation.specs.declared.brackets.State.TheVariants.{NoMember, Members, Closed}
-use Rattle.byte_notation.specs.declared.brackets.Member.{Member}
-use Rattle.byte_notation.specs.declared.brackets.Member.TheVariants.{Class, Range, Byte}
 use Rattle.byte_notation.specs.declared.brackets.Bracket.{Bracket}
-use Rattle.byte_notation.specs.Classes.{ranges, span, class_at, class_width}
+use Rattle.byte_notation.specs.Classes.{ranges_of, span, class_at, class_width}
+
+-- a member as it is read: a class by its number, a range, or one byte
+pub data Member : Type 0 where
+  Class : ℕ → Member
+  Range : ByteRange → Member
+  Byte : ℕ → Member
 
 -- the state after byte b, which begins a member or, where one was read before, closes the bracket by ]
 abbrev pub after : State → ℕ → State
@@ -56,9 +60,18 @@ with_ranges t [] = t
 with_ranges t (r ∷ rs) = with_ranges (with_range t r.low r.high) rs
 
 abbrev pub with_member : ByteTest → Member → ByteTest
-with_member t (Class c) = with_ranges t (slice_index_or ranges c [])
+with_member t (Class c) = with_ranges t (ranges_of c)
 with_member t (Range r) = with_range t r.low r.high
 with_member t (Byte b) = with_byte t b
+
+-- what is told of a member that was asked for
+abbrev pub taken : Result Member Refusal → Result (Unit {0}) Refusal
+taken (Ok m) = Ok tt
+taken (Err e) = Err e
+
+abbrev pub with_read : ByteTest → Result Member Refusal → ByteTest
+with_read t (Ok m) = with_member t m
+with_read t (Err e) = t
 
 -- a bracket that is read up to place p, by the state there: closed, or with a member more
 abbrev pub proceed : State → Bracket → Result Member Refusal → (Member → Result Bracket Refusal) → Result Bracket Refusal
@@ -73,7 +86,7 @@ abbrev pub members : ℕ → State → ByteTest → ℕ → ℕ → List ℕ →
 members opening state t p k [] = Err (record { cause = UnclosedBracket; place = opening })
 members opening state t p (suc k) (b ∷ bs) = members opening state t (p + 1) k bs
 members opening state t p zero (b ∷ bs) =
-    proceed (after state b) (record { test = t; end = p + 1 }) (member_at p b bs) (λ m. members opening Members (with_member t m) (p + 1) (width m - 1) bs)
+    proceed (after state b) (record { test = t; width = p + 1 - opening }) (member_at p b bs) (λ m. members opening Members (with_member t m) (p + 1) (width m - 1) bs)
 
 -- a ^ at the front
 abbrev pub caret : List ℕ → Bool
@@ -84,10 +97,10 @@ caret (b ∷ bs) = b == 94
 abbrev pub tested : Bool → ByteTest → ByteTest
 tested inverted t = cond inverted (others (with_byte t 10)) t
 
-abbrev pub bracketed : ℕ → Bool → Result Bracket Refusal → Result (Lexeme ByteTest) Refusal
-bracketed opening inverted (Ok b) = Ok (record { token = Atom (tested inverted b.test); width = b.end - opening })
-bracketed opening inverted (Err e) = Err e
+abbrev pub bracketed : Bool → Result Bracket Refusal → Result (Lexeme ByteTest) Refusal
+bracketed inverted (Ok b) = Ok (atom (tested inverted b.test) b.width)
+bracketed inverted (Err e) = Err e
 
 -- the bracket that opens at a place, with the bytes behind it
 abbrev pub bracket : ℕ → List ℕ → Result (Lexeme ByteTest) Refusal
-bracket opening bs = bracketed opening (caret bs) (members opening NoMember no_byte (opening + 1) (cond (caret bs) 1 0) bs)
+bracket opening bs = bracketed (caret bs) (members opening NoMember no_byte (opening + 1) (cond (caret bs) 1 0) bs)

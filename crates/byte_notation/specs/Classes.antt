@@ -1,5 +1,5 @@
 -- The eight class names and their bytes, and which class stands at the front of a text.
-use Rattle.std.specs.Prelude.{ℕ, ◌+◌, ◌<◌, Bool, true, false, cond, List, [], ◌∷◌, ◌++◌, length, Some, None, codes, Option, ◌==◌, slice_index_or}
+use Rattle.std.specs.Prelude.{ℕ, ◌+◌, Bool, true, false, cond, List, [], ◌∷◌, ◌++◌, length, Some, None, codes, Option, ◌==◌, slice_index_or}
 use Rattle.byte_notation.specs.declared.classes.ByteRange.{ByteRange}
 
 unfoldable pub names : List (List ℕ)
@@ -21,6 +21,13 @@ ranges =
     ∷ (span 9 13 ∷ span 32 32 ∷ [])
     ∷ []
 
+-- the name and the bytes of the class with a number
+abbrev pub name_of : ℕ → List ℕ
+name_of i = slice_index_or names i []
+
+abbrev pub ranges_of : ℕ → List ByteRange
+ranges_of i = slice_index_or ranges i []
+
 -- the text begins with the front
 abbrev pub starts : List ℕ → List ℕ → Bool
 starts [] ts = true
@@ -40,14 +47,18 @@ class_from i (n ∷ ns) text = cond (starts (spelled n) text) (Some i) (class_fr
 abbrev pub class_at : List ℕ → Option ℕ
 class_at text = class_from 0 names text
 
+-- the first of the names that stands at the front of the text, with :] behind it
+abbrev pub named_from : ℕ → List (List ℕ) → List ℕ → Option ℕ
+named_from i [] text = None
+named_from i (n ∷ ns) text = cond (starts (n ++ codes ":]") text) (Some i) (named_from (i + 1) ns text)
+
+abbrev pub class_named : List ℕ → Option ℕ
+class_named text = named_from 0 names text
+
 abbrev pub class_width : ℕ → ℕ
-class_width i = length (slice_index_or names i []) + 4
+class_width i = length (name_of i) + 4
 
 -- the place behind a class that may stand at p
 abbrev pub passed : Option ℕ → ℕ → ℕ
 passed (Some i) p = p + class_width i
 passed None p = p
-
-abbrev pub Known : Option ℕ → Type 0
-Known (Some i) = i < 8
-Known None = Unit {0}

@@ -10,7 +10,8 @@ use Rattle.items.specs.declared.Token.TheVariants as token
 use Rattle.symbols.specs.declared.ByteTest.{ByteTest}
 use Rattle.symbols.specs.Tests.{passes_byte}
 use Rattle.byte_notation.specs.Atoms.{Atom, Refused}
-use Rattle.byte_notation.specs.Lexing.{lexed, refused, signed, atom}
+use Rattle.items.specs.Lexemes.{signed, atom}
+use Rattle.byte_notation.specs.Lexing.{lexed, refused}
 
 abbrev pub sign_byte : Sign → ℕ
 sign_byte Open = 40

@@ -4,9 +4,8 @@ use Rattle.refusal.specs.declared.Cause.{Cause}
 use Rattle.refusal.specs.declared.Cause.TheVariants.{NoItem, BadEscape}
 use Rattle.refusal.specs.declared.Refusal.{Refusal}
 use Rattle.items.specs.declared.Lexeme.{Lexeme}
-use Rattle.items.specs.declared.Sign.{Sign}
 use Rattle.items.specs.declared.Sign.TheVariants.{Open, Close, Bar, Star, Plus, Query}
-use Rattle.items.specs.declared.Token.TheVariants as token
+use Rattle.items.specs.Lexemes.{signed, atom}
 use Rattle.symbols.specs.declared.ByteTest.{ByteTest}
 use Rattle.symbols.specs.ByteSets.{no_byte, with_byte, others}
 use Rattle.byte_notation.specs.Atoms.{one_of}
@@ -14,12 +13,6 @@ use Rattle.byte_notation.specs.Brackets.{bracket}
 
 abbrev pub refused : Cause → ℕ → Result (Lexeme ByteTest) Refusal
 refused c p = Err (record { cause = c; place = p })
-
-abbrev pub signed : Sign → Lexeme ByteTest
-signed s = record { token = token.Sign s; width = 1 }
-
-abbrev pub atom : ByteTest → ℕ → Lexeme ByteTest
-atom t w = record { token = token.Atom t; width = w }
 
 -- just one byte
 abbrev pub only_byte : ℕ → ByteTest

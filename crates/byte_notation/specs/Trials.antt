@@ -8,7 +8,8 @@ use Rattle.symbols.specs.ByteSets.{no_byte, with_byte, others}
 use Rattle.byte_notation.specs.declared.classes.ByteRange.{ByteRange}
 use Rattle.byte_notation.specs.Brackets.{with_ranges}
 use Rattle.byte_notation.specs.Classes.{span}
-use Rattle.byte_notation.specs.Lexing.{lexed, refused, signed, atom, only_byte, any_byte}
+use Rattle.items.specs.Lexemes.{signed, atom}
+use Rattle.byte_notation.specs.Lexing.{lexed, refused, only_byte, any_byte}
 
 -- the text begins with an atom of some width, which passes the ranges
 abbrev pub Front : String → ℕ → List ByteRange → Type 0

@@ -2,38 +2,30 @@
 //
 // A bracket is read member by member. A member is a class, a range or one byte, and `advance` says by the state and the next
 // byte whether another member begins or the bracket closes. Each member is put into the set of the bytes named so far.
-ghost use Rattle.std.specs.Prelude.{◌≡◌, ◌+◌, ◌<◌, ◌≤◌, true, length, drop, slice_index};
+ghost use Rattle.std.specs.Prelude.{◌≡◌, ◌+◌, ◌<◌, ◌≤◌, length, drop, slice_index};
 ghost use Rattle.items.specs.Lexemes.{Within};
 ghost use Rattle.symbols.specs.ByteSets.{no_byte};
-ghost use Rattle.byte_notation.specs.Bounds.{Numbered, Sound, Fitting, Closing};
-ghost use Rattle.byte_notation.specs.Brackets.{after, range_end, member_at, behind, with_member, with_ranges, members, caret, tested, bracket};
+ghost use Rattle.byte_notation.specs.Bounds.{Fitting, Closing};
+ghost use Rattle.byte_notation.specs.Brackets.{after, range_end, member_at, behind, taken, with_read, with_ranges, members, tested, bracket};
 
-use super::classes::{ByteRange, ranges_of, read_class};
-use items::{Lexeme, Token};
+use super::classes::{ByteRange, read_class};
+use items::{Lexeme, Rest};
 use refusal::{Cause, Refusal};
 use symbols::ByteTest;
 
 // How far a bracket is read. Only where no member is read yet does ] stand for itself.
-#[derive(Clone, Copy)]
+#[derive(Clone, Copy, Debug, PartialEq, Eq)]
 pub enum State {
     NoMember,
     Members,
     Closed,
 }
 
-// A class by its number, or a range, or one byte.
-#[derive(Clone, Copy)]
-pub enum Member {
-    Class(usize),
-    Range(ByteRange),
-    Byte(u8),
-}
-
-// The bytes that the members name, and the place behind the closing bracket.
+// The bytes that the members name, and how many bytes the bracket takes.
 #[derive(Clone, Copy)]
 pub struct Bracket {
     pub test: ByteTest,
-    pub end: usize,
+    pub width: usize,
 }
 
 // The state once `byte`, which begins a member or closes the bracket, is taken.
@@ -48,44 +40,14 @@ fn advance(state: State, byte: u8) -> State
     }
 }
 
-// The end of a range whose first byte stands at the place.
-fn range_end(text: &[u8], place: usize) -> Option<u8>
-    requires { place < length text.now }
-    ensures is { result ≡ range_end (drop (place + 1) text.now) }
-    ensures within { Fitting result place (length text.now) }
+// The end of a range whose first byte stands in front.
+fn range_end(text: &[u8]) -> Option<u8>
+    ensures is { result ≡ range_end (drop 1 text.now) }
+    ensures within { Fitting result (length text.now) }
 {
-    if place + 2 < text.len() && text[place + 1] == b'-' && text[place + 2] != b']' {
-        Some(text[place + 2])
-    } else {
-        None
-    }
-}
-
-// Reads the member at the cursor.
-fn read_member(text: &[u8], cursor: &mut usize) -> Result<Member, Refusal>
-    requires { cursor.old < length text.now }
-    ensures is { result ≡ member_at cursor.old (slice_index text.now cursor.old) (drop (cursor.old + 1) text.now) }
-    ensures numbered { Sound result }
-    ensures moved { cursor.new ≡ behind result cursor.old }
-    ensures within { cursor.new ≤ length text.now }
-{
-    if let Some(number) = read_class(text, cursor) {
-        return Ok(Member::Class(number));
-    }
-    let low = text[*cursor];
-    match range_end(text, *cursor) {
-        None => {
-            *cursor += 1;
-            Ok(Member::Byte(low))
-        }
-        Some(high) if high < low => Err(Refusal {
-            cause: Cause::ReversedRange,
-            place: *cursor,
-        }),
-        Some(high) => {
-            *cursor += 3;
-            Ok(Member::Range(ByteRange { low, high }))
-        }
+    match text {
+        [_, b'-', high, ..] if *high != b']' => Some(*high),
+        _ => None,
     }
 }
 
@@ -97,48 +59,54 @@ fn insert_ranges(test: &mut ByteTest, ranges: &[ByteRange])
     }
 }
 
-fn insert_member(test: &mut ByteTest, member: Member)
-    requires { Numbered member }
-    ensures { test.new ≡ with_member test.old member }
+// Puts the bytes of the member at the cursor into the test, and moves the cursor behind it.
+fn take_member(text: Rest<'_>, cursor: &mut usize, test: &mut ByteTest) -> Result<(), Refusal>
+    requires { cursor.old < length text.bytes.now }
+    ensures is { result ≡ taken (member_at (text.entry.place + cursor.old) (slice_index text.entry.bytes.now cursor.old) (drop (cursor.old + 1) text.entry.bytes.now)) }
+    ensures test { test.new ≡ with_read test.old (member_at (text.entry.place + cursor.old) (slice_index text.entry.bytes.now cursor.old) (drop (cursor.old + 1) text.entry.bytes.now)) }
+    ensures moved { cursor.new ≡ behind (member_at (text.entry.place + cursor.old) (slice_index text.entry.bytes.now cursor.old) (drop (cursor.old + 1) text.entry.bytes.now)) cursor.old }
+    ensures within { cursor.new ≤ length text.entry.bytes.now }
 {
-    match member {
-        Member::Class(number) => insert_ranges(test, ranges_of(number)),
-        Member::Range(range) => test.insert_range(range.low, range.high),
-        Member::Byte(byte) => test.insert(byte),
+    if let Some(ranges) = read_class(text.bytes, cursor) {
+        insert_ranges(test, ranges);
+        return Ok(());
     }
+    let left = text.behind(*cursor);
+    let low = left.bytes[0];
+    match range_end(left.bytes) {
+        None => {
+            *cursor += 1;
+            test.insert(low);
+        }
+        Some(high) if high < low => return Err(left.refused(Cause::ReversedRange)),
+        Some(high) => {
+            *cursor += 3;
+            test.insert_range(low, high);
+        }
+    }
+    Ok(())
 }
 
-// Reads members from `start` on up to the bracket that closes the one at `opening`.
-fn read_members(text: &[u8], opening: usize, start: usize) -> Result<Bracket, Refusal>
-    requires { start ≤ length text.now }
-    ensures is { result ≡ members opening State.NoMember no_byte start 0 (drop start text.now) }
-    ensures within { Closing result start (length text.now) }
+// Reads members from `start` on up to the bracket that closes the one in front.
+fn read_members(text: Rest<'_>, start: usize) -> Result<Bracket, Refusal>
+    requires { start ≤ length text.bytes.now }
+    ensures is { result ≡ members text.entry.place State.NoMember no_byte (text.entry.place + start) 0 (drop start text.entry.bytes.now) }
+    ensures within { Closing result start (length text.entry.bytes.now) }
 {
     let mut test = ByteTest::none();
     let mut state = State::NoMember;
     let mut cursor = start;
-    while cursor < text.len() {
-        state = advance(state, text[cursor]);
+    while cursor < text.bytes.len() {
+        state = advance(state, text.bytes[cursor]);
         if let State::Closed = state {
             return Ok(Bracket {
                 test,
-                end: cursor + 1,
+                width: cursor + 1,
             });
         }
-        let member = read_member(text, &mut cursor)?;
-        insert_member(&mut test, member);
+        take_member(text, &mut cursor, &mut test)?;
     }
-    Err(Refusal {
-        cause: Cause::UnclosedBracket,
-        place: opening,
-    })
-}
-
-fn caret_at(text: &[u8], place: usize) -> bool
-    ensures is { result ≡ caret (drop place text.now) }
-    ensures fits { result ≡ true → place < length text.now }
-{
-    place < text.len() && text[place] == b'^'
+    Err(text.refused(Cause::UnclosedBracket))
 }
 
 // The test of a bracket whose members name the bytes of `named`: after ^ the others, without the end of a line.
@@ -152,16 +120,14 @@ fn test_of(mut named: ByteTest, inverted: bool) -> ByteTest
     named
 }
 
-// The atom that begins with the bracket at `opening`.
-pub fn read_bracket(text: &[u8], opening: usize) -> Result<Lexeme<ByteTest>, Refusal>
-    requires { opening < length text.now }
-    ensures is { result ≡ bracket opening (drop (opening + 1) text.now) }
-    ensures within { Within opening (length text.now) result }
+// The atom that begins with the bracket in front.
+pub fn read_bracket(text: Rest<'_>) -> Result<Lexeme<ByteTest>, Refusal>
+    requires { 0 < length text.bytes.now }
+    ensures is { result ≡ bracket text.entry.place (drop 1 text.entry.bytes.now) }
+    ensures within { Within 0 (length text.entry.bytes.now) result }
 {
-    let inverted = caret_at(text, opening + 1);
-    let bracket = read_members(text, opening, opening + 1 + inverted as usize)?;
-    Ok(Lexeme {
-        token: Token::Atom(test_of(bracket.test, inverted)),
-        width: bracket.end - opening,
-    })
+    let inverted = matches!(text.bytes, [_, b'^', ..]);
+    let start = if inverted { 2 } else { 1 };
+    let bracket = read_members(text, start)?;
+    Ok(Lexeme::atom(test_of(bracket.test, inverted), bracket.width))
 }

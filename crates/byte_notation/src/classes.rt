@@ -1,6 +1,6 @@
 // The named classes of a bracket, as [:digit:].
-ghost use Rattle.std.specs.Prelude.{◌≡◌, ◌+◌, ◌<◌, ◌≤◌, true, [], ◌++◌, length, drop, if◌then◌else◌, codes, slice_index_or};
-ghost use Rattle.byte_notation.specs.Classes.{names, ranges, starts, class_at, passed, Known};
+ghost use Rattle.std.specs.Prelude.{◌≡◌, ◌+◌, ◌≤◌, true, ◌++◌, length, drop, if◌then◌else◌, codes, option_map, option_copied, IfSome};
+ghost use Rattle.byte_notation.specs.Classes.{name_of, ranges_of, starts, class_named, class_at, passed};
 
 // The bytes from `low` to `high`, both included.
 #[derive(Clone, Copy)]
@@ -100,39 +100,29 @@ const CLASSES: [Class; 8] = [
     },
 ];
 
-fn name_of(i: usize) -> &'static [u8]
-    requires { i < 8 }
-    ensures { result.now ≡ slice_index_or names i [] }
-{
-    CLASSES[i].name
-}
-
-pub fn ranges_of(i: usize) -> &'static [ByteRange]
-    requires { i < 8 }
-    ensures { result.now ≡ slice_index_or ranges i [] }
-{
-    CLASSES[i].ranges
-}
-
-// Says whether the text begins with the front.
-fn begins(text: &[u8], front: &[u8]) -> bool
-    ensures is { result ≡ starts front.now text.now }
-    ensures fits { result ≡ true → length front.now ≤ length text.now }
-{
-    for (i, byte) in front.iter().enumerate() {
-        if i >= text.len() || text[i] != *byte {
-            return false;
-        }
-    }
-    true
-}
-
 // Says whether the text begins with the name and then :].
 fn begins_named(text: &[u8], name: &[u8]) -> bool
     ensures is { result ≡ starts (name.now ++ codes ":]") text.now }
     ensures fits { result ≡ true → length name.now + 2 ≤ length text.now }
 {
-    begins(text, name) && begins(&text[name.len()..], b":]")
+    match text.strip_prefix(name) {
+        Some(behind) => behind.starts_with(b":]"),
+        None => false,
+    }
+}
+
+// The class whose name stands in front, with :] behind it.
+fn class_named(text: &[u8]) -> Option<&'static Class>
+    ensures name { option_map (λ c. c.now.name.now) result ≡ option_map name_of (class_named text.now) }
+    ensures ranges { option_map (λ c. c.now.ranges.now) result ≡ option_map ranges_of (class_named text.now) }
+    ensures fits { IfSome result (λ c. length c.now.name.now + 2 ≤ length text.now) }
+{
+    for class in &CLASSES {
+        if begins_named(text, class.name) {
+            return Some(class);
+        }
+    }
+    None
 }
 
 // Lends the cursor to a reader, and sets it back to the start when dropped, unless the reader is done.
@@ -157,12 +147,11 @@ impl Drop for Rewind<'_> {
     }
 }
 
-// The number of the class that stands at the cursor, which then stands behind it. Without one the cursor is where it was.
-pub fn read_class(text: &[u8], cursor: &mut usize) -> Option<usize>
+// The bytes of the class that stands at the cursor, which then stands behind it. Without one the cursor is where it was.
+pub fn read_class(text: &[u8], cursor: &mut usize) -> Option<&'static [ByteRange]>
     requires { cursor.old ≤ length text.now }
-    ensures is { result ≡ class_at (drop cursor.old text.now) }
-    ensures known { Known result }
-    ensures moved { cursor.new ≡ passed result cursor.old }
+    ensures is { option_copied result ≡ option_map ranges_of (class_at (drop cursor.old text.now)) }
+    ensures moved { cursor.new ≡ passed (class_at (drop cursor.old text.now)) cursor.old }
     ensures within { cursor.new ≤ length text.now }
 {
     let start = *cursor;
@@ -171,17 +160,12 @@ pub fn read_class(text: &[u8], cursor: &mut usize) -> Option<usize>
         start,
         done: false,
     };
-    if !begins(&text[start..], b"[:") {
+    if !text[start..].starts_with(b"[:") {
         return None;
     }
     *back.cursor += 2;
-    for i in 0..CLASSES.len() {
-        let name = name_of(i);
-        if begins_named(&text[*back.cursor..], name) {
-            *back.cursor += name.len() + 2;
-            back.done = true;
-            return Some(i);
-        }
-    }
-    None
+    let class = class_named(&text[*back.cursor..])?;
+    *back.cursor += class.name.len() + 2;
+    back.done = true;
+    Some(class.ranges)
 }

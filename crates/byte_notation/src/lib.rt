@@ -4,12 +4,12 @@
 // members are single bytes, ranges and the named classes of `classes`.
 #![tactic(auto)]
 
-ghost use Rattle.std.specs.Prelude.{◌≡◌, ◌+◌, ◌<◌, length, drop, slice_index};
+ghost use Rattle.std.specs.Prelude.{◌≡◌, ◌<◌, length, drop};
 ghost use Rattle.items.specs.Lexemes.{Within};
 ghost use Rattle.byte_notation.specs.Law.{Reads};
-ghost use Rattle.byte_notation.specs.Lexing.{lexed, item, escape, escape_of, signed, atom as atom_of, only_byte, any_byte};
+ghost use Rattle.byte_notation.specs.Lexing.{lexed, escape, escape_of, only_byte, any_byte};
 
-use items::{Lexeme, Notation, Sign, Token};
+use items::{Lexeme, Notation, Rest, Sign};
 use refusal::{Cause, Refusal};
 use symbols::ByteTest;
 
@@ -31,49 +31,30 @@ impl Notation for Bytes {
         ensures within { Within place (length text.now) result }
         ensures law { Reads place (drop place text.now) result }
     {
-        read_item(text, place)
+        read_item(Rest::of(text, place))
     }
 }
 
-// The item that begins at the place.
-fn read_item(text: &[u8], place: usize) -> Result<Lexeme<ByteTest>, Refusal>
-    requires { place < length text.now }
-    ensures is { result ≡ item place (slice_index text.now place) (drop (place + 1) text.now) }
-    ensures within { Within place (length text.now) result }
+// The item in front.
+fn read_item(text: Rest<'_>) -> Result<Lexeme<ByteTest>, Refusal>
+    ensures is { result ≡ lexed text.entry.place text.entry.bytes.now }
+    ensures within { Within 0 (length text.entry.bytes.now) result }
 {
-    match text[place] {
-        b'(' => Ok(sign(Sign::Open)),
-        b')' => Ok(sign(Sign::Close)),
-        b'|' => Ok(sign(Sign::Bar)),
-        b'*' => Ok(sign(Sign::Star)),
-        b'+' => Ok(sign(Sign::Plus)),
-        b'?' => Ok(sign(Sign::Query)),
-        b'.' => Ok(atom(any_byte(), 1)),
-        b'\\' => read_escape(text, place),
-        b'[' => brackets::read_bracket(text, place),
-        b'{' | b'^' | b'$' => Err(Refusal {
-            cause: Cause::NoItem,
-            place,
-        }),
-        byte => Ok(atom(only(byte), 1)),
-    }
-}
-
-fn sign(sign: Sign) -> Lexeme<ByteTest>
-    ensures { result ≡ signed sign }
-{
-    Lexeme {
-        token: Token::Sign(sign),
-        width: 1,
-    }
-}
-
-fn atom(test: ByteTest, width: usize) -> Lexeme<ByteTest>
-    ensures { result ≡ atom_of test width }
-{
-    Lexeme {
-        token: Token::Atom(test),
-        width,
+    let [first, ..] = text.bytes else {
+        return Err(text.refused(Cause::NoItem));
+    };
+    match *first {
+        b'(' => Ok(Lexeme::sign(Sign::Open)),
+        b')' => Ok(Lexeme::sign(Sign::Close)),
+        b'|' => Ok(Lexeme::sign(Sign::Bar)),
+        b'*' => Ok(Lexeme::sign(Sign::Star)),
+        b'+' => Ok(Lexeme::sign(Sign::Plus)),
+        b'?' => Ok(Lexeme::sign(Sign::Query)),
+        b'.' => Ok(Lexeme::atom(any_byte(), 1)),
+        b'\\' => read_escape(text),
+        b'[' => brackets::read_bracket(text),
+        b'{' | b'^' | b'$' => Err(text.refused(Cause::NoItem)),
+        byte => Ok(Lexeme::atom(only(byte), 1)),
     }
 }
 
@@ -120,23 +101,15 @@ fn escape_of(byte: u8) -> Option<u8>
     }
 }
 
-// The atom that the backslash at the place begins.
-fn read_escape(text: &[u8], place: usize) -> Result<Lexeme<ByteTest>, Refusal>
-    requires { place < length text.now }
-    ensures is { result ≡ escape place (drop (place + 1) text.now) }
-    ensures within { Within place (length text.now) result }
+// The atom that the backslash in front begins.
+fn read_escape(text: Rest<'_>) -> Result<Lexeme<ByteTest>, Refusal>
+    ensures is { result ≡ escape text.entry.place (drop 1 text.entry.bytes.now) }
+    ensures within { Within 0 (length text.entry.bytes.now) result }
 {
-    if place + 1 == text.len() {
-        return Err(Refusal {
-            cause: Cause::BadEscape,
-            place,
-        });
+    if let [_, second, ..] = text.bytes
+        && let Some(byte) = escape_of(*second)
+    {
+        return Ok(Lexeme::atom(only(byte), 2));
     }
-    match escape_of(text[place + 1]) {
-        Some(byte) => Ok(atom(only(byte), 2)),
-        None => Err(Refusal {
-            cause: Cause::BadEscape,
-            place,
-        }),
-    }
+    Err(text.refused(Cause::BadEscape))
 }

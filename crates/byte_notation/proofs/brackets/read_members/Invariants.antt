@@ -1,4 +1,4 @@
-use Rattle.std.proofs.Common.{◌≡◌, ◌-◌, ◌≤◌, length, drop}
+use Rattle.std.proofs.Common.{◌≡◌, ◌+◌, ◌-◌, ◌≤◌, length, drop}
 use Rattle.symbols.specs.ByteSets.{no_byte}
 use Rattle.byte_notation.specs.declared.brackets.State.TheVariants.{NoMember}
 use Rattle.byte_notation.specs.Brackets.{members}
@@ -6,8 +6,12 @@ use Rattle.byte_notation.proofs.brackets.read_members.Given as goal
 
 abbrev pub invariant-loop-cursor : goal.invariant-loop-cursor
 invariant-loop-cursor l =
-    (l.start ≤ l.cursor) × (l.cursor ≤ length l.text)
-    × (members l.opening l.state l.test l.cursor 0 (drop l.cursor l.text) ≡ members l.opening NoMember no_byte l.start 0 (drop l.start l.text))
+    record {
+      from : l.start ≤ l.cursor;
+      within : l.cursor ≤ length l.text.bytes.now;
+      is : members l.text.place l.state l.test (l.text.place + l.cursor) 0 (drop l.cursor l.text.bytes.now)
+          ≡ members l.text.place NoMember no_byte (l.text.place + l.start) 0 (drop l.start l.text.bytes.now);
+    }
 
 abbrev pub decreases-loop-cursor : goal.decreases-loop-cursor
-decreases-loop-cursor l = length l.text - l.cursor
+decreases-loop-cursor l = length l.text.bytes.now - l.cursor

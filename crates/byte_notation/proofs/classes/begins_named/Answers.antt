@@ -1,18 +1,16 @@
-use Rattle.std.proofs.Common.{sym, ◌∙◌}
-use borrow.Author.Tests.{clash}
-use Rattle.byte_notation.proofs.Fronts.{named_both, named_fits, named_not}
+use Rattle.std.proofs.Common.{◌≡◌, true, false, length, drop, codes, sym, ap, ◌∙◌, ◌&&◌}
+use Rattle.byte_notation.specs.Classes.{starts}
+use Rattle.byte_notation.proofs.Fronts.{stripped, compared, starts_append}
 use Rattle.byte_notation.proofs.classes.begins_named.Goals as goal
 
-pub returns-then-begins : goal.returns-then-begins
-returns-then-begins c =
-    record {
-      is = named_both c.args.name.now c.args.text.now c.begins-then-begins.result (sym c.begins.ensures.is ∙ c.if-begins.true) c.begins-then-begins.ensures.is;
-      fits = λ t. named_fits c.args.name.now c.args.text.now (c.begins.ensures.fits c.if-begins.true) (c.begins-then-begins.ensures.fits t);
-    }
+pub returns-in-Some-clause-is : goal.returns-in-Some-clause-is
+returns-in-Some-clause-is c =
+    let name : starts c.args.name.now c.args.text.now ≡ true = sym (stripped c.args.name.now c.args.text.now) ∙ c.in-Some.ensures.cases.0 in
+    c.starts_with.ensures.value ∙ compared (codes ":]") c.in-Some.behind.now
+    ∙ ap (starts (codes ":]")) c.in-Some.ensures.cases.1
+    ∙ sym (starts_append c.args.name.now (codes ":]") c.args.text.now ∙ ap (λ b. b && starts (codes ":]") (drop (length c.args.name.now) c.args.text.now)) name)
 
-pub returns-else-begins : goal.returns-else-begins
-returns-else-begins c =
-    record {
-      is = c.if-begins.false ∙ sym (named_not c.args.name.now c.args.text.now (sym c.begins.ensures.is ∙ c.if-begins.false));
-      fits = λ t. absurd (clash (sym c.if-begins.false ∙ t));
-    }
+pub returns-in-None-clause-is : goal.returns-in-None-clause-is
+returns-in-None-clause-is c =
+    let name : starts c.args.name.now c.args.text.now ≡ false = sym (stripped c.args.name.now c.args.text.now) ∙ c.in-None.ensures.cases in
+    sym (starts_append c.args.name.now (codes ":]") c.args.text.now ∙ ap (λ b. b && starts (codes ":]") (drop (length c.args.name.now) c.args.text.now)) name)
