@@ -1,5 +1,5 @@
 -- What a bracket reads as: its members one after another, and at its end the bytes that pass.
-use Rattle.std.specs.Prelude.{ℕ, zero, suc, ◌+◌, ◌-◌, Bool, false, cond, List, [], ◌∷◌, Some, None, Ok, Err, Option, Result, ◌==◌, nat_lt}
+use Rattle.std.specs.Prelude.{ℕ, zero, suc, ◌+◌, ◌-◌, Bool, false, cond, List, [], ◌∷◌, drop, Some, None, Ok, Err, Option, Result, ◌==◌, nat_lt, slice_index}
 use Rattle.refusal.specs.declared.Cause.TheVariants.{UnclosedBracket, ReversedRange}
 use Rattle.refusal.specs.declared.Refusal.{Refusal}
 use Rattle.items.specs.declared.Lexeme.{Lexeme}
@@ -43,6 +43,10 @@ class_else None other = other
 -- the member that begins with byte b at place p, the rest behind it
 abbrev pub member_at : ℕ → ℕ → List ℕ → Result Member Refusal
 member_at p b rest = class_else (class_at (b ∷ rest)) (ranged p b (range_end rest))
+
+-- the member that begins with the q-th byte of a text, which begins at place p
+abbrev pub member_in : ℕ → List ℕ → ℕ → Result Member Refusal
+member_in p text q = member_at (p + q) (slice_index text q) (drop (q + 1) text)
 
 -- how many bytes a member takes
 abbrev pub width : Member → ℕ

@@ -2,11 +2,11 @@
 //
 // A bracket is read member by member. A member is a class, a range or one byte, and `advance` says by the state and the next
 // byte whether another member begins or the bracket closes. Each member is put into the set of the bytes named so far.
-ghost use Rattle.std.specs.Prelude.{◌≡◌, ◌+◌, ◌<◌, ◌≤◌, length, drop, slice_index};
+ghost use Rattle.std.specs.Prelude.{◌≡◌, ◌+◌, ◌<◌, ◌≤◌, length, drop};
 ghost use Rattle.items.specs.Lexemes.{Within};
 ghost use Rattle.symbols.specs.ByteSets.{no_byte};
 ghost use Rattle.byte_notation.specs.Bounds.{Fitting, Closing};
-ghost use Rattle.byte_notation.specs.Brackets.{after, range_end, member_at, behind, taken, with_read, with_ranges, members, tested, bracket};
+ghost use Rattle.byte_notation.specs.Brackets.{after, range_end, member_in, behind, taken, with_read, with_ranges, members, tested, bracket};
 
 use super::classes::{ByteRange, read_class};
 use items::{Lexeme, Rest};
@@ -62,9 +62,9 @@ fn insert_ranges(test: &mut ByteTest, ranges: &[ByteRange])
 // Puts the bytes of the member at the cursor into the test, and moves the cursor behind it.
 fn take_member(text: Rest<'_>, cursor: &mut usize, test: &mut ByteTest) -> Result<(), Refusal>
     requires { cursor.old < length text.bytes.now }
-    ensures is { result ≡ taken (member_at (text.entry.place + cursor.old) (slice_index text.entry.bytes.now cursor.old) (drop (cursor.old + 1) text.entry.bytes.now)) }
-    ensures test { test.new ≡ with_read test.old (member_at (text.entry.place + cursor.old) (slice_index text.entry.bytes.now cursor.old) (drop (cursor.old + 1) text.entry.bytes.now)) }
-    ensures moved { cursor.new ≡ behind (member_at (text.entry.place + cursor.old) (slice_index text.entry.bytes.now cursor.old) (drop (cursor.old + 1) text.entry.bytes.now)) cursor.old }
+    ensures is { result ≡ taken (member_in text.entry.place text.entry.bytes.now cursor.old) }
+    ensures test { test.new ≡ with_read test.old (member_in text.entry.place text.entry.bytes.now cursor.old) }
+    ensures moved { cursor.new ≡ behind (member_in text.entry.place text.entry.bytes.now cursor.old) cursor.old }
     ensures within { cursor.new ≤ length text.entry.bytes.now }
 {
     if let Some(ranges) = read_class(text.bytes, cursor) {
@@ -89,7 +89,6 @@ fn take_member(text: Rest<'_>, cursor: &mut usize, test: &mut ByteTest) -> Resul
 
 // Reads members from `start` on up to the bracket that closes the one in front.
 fn read_members(text: Rest<'_>, start: usize) -> Result<Bracket, Refusal>
-    requires { start ≤ length text.bytes.now }
     ensures is { result ≡ members text.entry.place State.NoMember no_byte (text.entry.place + start) 0 (drop start text.entry.bytes.now) }
     ensures within { Closing result start (length text.entry.bytes.now) }
 {
@@ -122,7 +121,6 @@ fn test_of(mut named: ByteTest, inverted: bool) -> ByteTest
 
 // The atom that begins with the bracket in front.
 pub fn read_bracket(text: Rest<'_>) -> Result<Lexeme<ByteTest>, Refusal>
-    requires { 0 < length text.bytes.now }
     ensures is { result ≡ bracket text.entry.place (drop 1 text.entry.bytes.now) }
     ensures within { Within 0 (length text.entry.bytes.now) result }
 {

@@ -8,7 +8,6 @@ abbrev pub invariant-loop-cursor : goal.invariant-loop-cursor
 invariant-loop-cursor l =
     record {
       from : l.start ≤ l.cursor;
-      within : l.cursor ≤ length l.text.bytes.now;
       is : members l.text.place l.state l.test (l.text.place + l.cursor) 0 (drop l.cursor l.text.bytes.now)
           ≡ members l.text.place NoMember no_byte (l.text.place + l.start) 0 (drop l.start l.text.bytes.now);
     }
