@@ -1,10 +1,10 @@
 -- How the two policies go on when they hear something.
-use Rattle.std.specs.Prelude.{◌≡◌, ℕ}
+use Rattle.std.specs.Prelude.{◌≡◌, ℕ, Option}
 use Rattle.sets.specs.Members.{Members, plus, less, either}
 use Rattle.memory.specs.Live.{News}
 use Rattle.memory.specs.Live.News.{seated, dropped, met, chose}
 use Rattle.policies.specs.Chosen.{Choice}
-use Rattle.policies.specs.Round.{others}
+use Rattle.policies.specs.Round.{others, Way, round}
 
 -- flush-all keeps the live places and nothing else, and chooses all of them but the held one
 abbrev pub flush_hears : Members → News → Members → Type 0
@@ -28,3 +28,7 @@ clock_hears a (seated p) b = b ≡ face (plus 64 a.live p) (plus 64 a.marks p) a
 clock_hears a (dropped x) b = b ≡ face (less a.live x) a.marks a.hand
 clock_hears a (met x) b = b ≡ face a.live (either a.marks x) a.hand
 clock_hears a (chose held x) b = (b.live ≡ a.live) × Choice (others a.live held) a.marks a.hand x b.marks b.hand
+
+-- the way of the hand from here on, while a place may be held
+abbrev pub way_from : Face → Option ℕ → Way
+way_from a held = round (others a.live held) a.marks a.hand

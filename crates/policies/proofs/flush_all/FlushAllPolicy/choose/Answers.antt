@@ -10,6 +10,5 @@ returns c =
       same = refl;
       within = λ k h. others_may (member s.live) c.args.held k (sym (ap (λ f. f k) c.without_held.ensures) ∙ h);
       some = λ k h. (k, ap (λ f. f k) c.without_held.ensures ∙ may_others (member s.live) c.args.held k h);
-      answer = c.without_held.ensures;
       hears = (refl, c.without_held.ensures);
     }
