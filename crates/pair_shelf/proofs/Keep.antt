@@ -1,104 +1,80 @@
-use Rattle.std.proofs.Common.{◌≡◌, ℕ, zero, suc, ◌+◌, ◌-◌, ◌<◌, ◌≤◌, Bool, true, false, cond, ◌&&◌, ◌||◌, eqb, ltb, List, length, set, Some, None, Option, sym, refl, ap, ◌∙◌, subst, ⊎_elim, add-one, arith, get_or-set_other, get_or-set_same}
+-- What noting one step more, looking one up and dropping some do to the map and to the distinctness of a table.
+use Rattle.std.proofs.Common.{◌≡◌, ℕ, Bool, true, false, cond, not, ◌&&◌, ◌||◌, eqb, List, [], ◌∷◌, ◌++◌, reverse, filter, Some, None, Option, sym, refl, ap, ◌∙◌, ⊎_elim}
 use mathlib.Core.Path.{fun_ext}
-use Rattle.std.proofs.lemmas.Bool.{and_from, both_ways, cases_Bool, cases_eq, and_parts, eqb-true, lt-ltb, le-ltb, eq-eqb}
-use Rattle.memory.specs.Steps.{Map, size, noted, is_none, without, unless, notable}
-use Rattle.memory.proofs.Sizes.{noted_other}
+use Rattle.std.specs.List.{fold, find}
+use Rattle.std.specs.Option.{option_map, option_or}
+use Rattle.std.proofs.lemmas.Bool.{and_from, both_ways, cases_Bool, and_parts, or_parts, eqb-true, lt-ltb}
+use Rattle.std.proofs.lemmas.List.Folds.{find-append}
+use Rattle.std.proofs.lemmas.List.{reverse-append}
+use Rattle.memory.specs.Steps.{Map, without, unless, nothing}
 use Rattle.pair_shelf.specs.declared.step.Step.{Step}
-use Rattle.pair_shelf.specs.Pairs.{pairs, distinct, new, at, no_step}
-use Rattle.pair_shelf.specs.Bounded.{New, fine_last, pairs_zero, pairs_suc, pairs_size}
-
-abbrev with_step : Map → Step → Map
-with_step f s = noted f s.place s.class s.target
-
-pub fine_zero : (xs : List Step) → distinct xs 0 ≡ true
-unfolding distinct
-fine_zero xs = refl
-
-pub pairs_none : (xs : List Step) (p c : ℕ) → pairs xs 0 p c ≡ None
-pairs_none xs p c = ap (λ f. f p c) (pairs_zero xs)
-
-pairs_same : (xs ys : List Step) (n : ℕ) → ((j : ℕ) → j < n → at ys j ≡ at xs j) → pairs ys n ≡ pairs xs n
-pairs_same xs ys zero h = pairs_zero ys ∙ sym (pairs_zero xs)
-pairs_same xs ys (suc n) h =
-    pairs_suc ys n ∙ ap (λ s. with_step (pairs ys n) s) (h n (omega arith)) ∙ ap (λ f. with_step f (at xs n)) (pairs_same xs ys n (λ j l. h j (omega arith))) ∙ sym (pairs_suc xs n)
-
-fine_suc : (xs : List Step) (n : ℕ) → distinct xs (suc n) ≡ (new (pairs xs n) (at xs n) && distinct xs n)
-unfolding distinct
-fine_suc xs n = refl
-
-fine_same : (xs ys : List Step) (n : ℕ) → ((j : ℕ) → j < n → at ys j ≡ at xs j) → distinct ys n ≡ distinct xs n
-fine_same xs ys zero h = fine_zero ys ∙ sym (fine_zero xs)
-fine_same xs ys (suc n) h =
-    fine_suc ys n
-    ∙ ap (λ s. new (pairs ys n) s && distinct ys n) (h n (omega arith))
-    ∙ ap (λ f. new f (at xs n) && distinct ys n) (pairs_same xs ys n (λ j l. h j (omega arith)))
-    ∙ ap (λ b. new (pairs xs n) (at xs n) && b) (fine_same xs ys n (λ j l. h j (omega arith)))
-    ∙ sym (fine_suc xs n)
-
-below_set : (xs : List Step) (n : ℕ) (s : Step) (j : ℕ) → j < n → at (set xs n s) j ≡ at xs j
-below_set xs n s j h = get_or-set_other xs n j s no_step (λ (e : j ≡ n). omega arith)
+use Rattle.pair_shelf.specs.Pairs.{pairs, distinct, new, new_in_turn, with_step}
+use Rattle.pair_shelf.specs.Bounded.{New, first_new}
 
 -- one step more
-pub pairs_push : (xs : List Step) (n : ℕ) (s : Step) → n < length xs → pairs (set xs n s) (n + 1) ≡ with_step (pairs xs n) s
-pairs_push xs n s h =
-    ap (pairs (set xs n s)) (add-one n)
-    ∙ pairs_suc (set xs n s) n
-    ∙ ap (λ x. with_step (pairs (set xs n s) n) x) (get_or-set_same xs n s no_step h)
-    ∙ ap (λ f. with_step f s) (pairs_same xs (set xs n s) n (below_set xs n s))
+fold_push : (f : Map) (xs : List Step) (s : Step) → fold with_step f (xs ++ s ∷ []) ≡ with_step (fold with_step f xs) s
+fold_push f [] s = refl
+fold_push f (x ∷ xs) s = fold_push (with_step f x) xs s
+
+pub pairs_push : (xs : List Step) (s : Step) → pairs (xs ++ s ∷ []) ≡ with_step (pairs xs) s
+pairs_push xs s = fold_push nothing xs s
 
 new_from : (f : Map) (s : Step) → New f s → new f s ≡ true
-new_from f s k =
-    and_from (ltb s.place 64) _ (lt-ltb s.place 64 k.from)
-    (and_from (ltb s.target 64) _ (lt-ltb s.target 64 k.to)
-    (and_from (ltb s.class 256) _ (lt-ltb s.class 256 k.class) (ap is_none k.lacks)))
+new_from f s k = rw (lt-ltb s.place 64 k.from, lt-ltb s.target 64 k.to, lt-ltb s.class 256 k.class, k.lacks)
 
-pub fine_push : (xs : List Step) (n : ℕ) (s : Step) → n < length xs → distinct xs n ≡ true → New (pairs xs n) s → distinct (set xs n s) (n + 1) ≡ true
-fine_push xs n s h e k =
-    ap (distinct (set xs n s)) (add-one n)
-    ∙ fine_suc (set xs n s) n
-    ∙ and_from (new (pairs (set xs n s) n) (at (set xs n s) n)) (distinct (set xs n s) n)
-    (ap (λ x. new (pairs (set xs n s) n) x) (get_or-set_same xs n s no_step h)
-    ∙ ap (λ f. new f s) (pairs_same xs (set xs n s) n (below_set xs n s))
-    ∙ new_from (pairs xs n) s k)
-    (fine_same xs (set xs n s) n (below_set xs n s) ∙ e)
+turn_push : (f : Map) (xs : List Step) (s : Step) → new_in_turn f xs ≡ true → New (fold with_step f xs) s → new_in_turn f (xs ++ s ∷ []) ≡ true
+turn_push f [] s e k = and_from (new f s) true (new_from f s k) refl
+turn_push f (x ∷ xs) s e k =
+    let a = and_parts (new f x) (new_in_turn (with_step f x) xs) e in
+    and_from (new f x) (new_in_turn (with_step f x) (xs ++ s ∷ [])) a.0 (turn_push (with_step f x) xs s a.1 k)
 
--- the step at i, which no earlier one has the key of
-pub fine_at : (xs : List Step) (n i : ℕ) → distinct xs n ≡ true → i < n → New (pairs xs i) (at xs i)
-fine_at xs zero i e h = absurd (omega arith)
-fine_at xs (suc n) i e h =
-    ⊎_elim
-    (λ (q : n ≡ i). subst (λ (k : ℕ). New (pairs xs k) (at xs k)) q (fine_last xs n e).0)
-    (λ (q : n ≡ i → ⊥). fine_at xs n i (fine_last xs n e).1 (omega arith))
-    (cases_eq n i)
+pub distinct_push : (xs : List Step) (s : Step) → distinct xs ≡ true → New (pairs xs) s → distinct (xs ++ s ∷ []) ≡ true
+distinct_push xs s e k = turn_push nothing xs s e k
 
 -- a look-up from behind
-pub look_hit : (xs : List Step) (i p c : ℕ) → 0 < i → (at xs (i - 1)).place ≡ p → (at xs (i - 1)).class ≡ c → pairs xs i p c ≡ Some (at xs (i - 1)).target
-look_hit xs i p c h e f =
-    let k : i ≡ suc (i - 1) = omega arith in
-    ap (λ n. pairs xs n p c) k ∙ ap (λ g. g p c) (pairs_suc xs (i - 1))
-    ∙ ap (λ b. cond b (Some (at xs (i - 1)).target) (pairs xs (i - 1) p c)) (and_from (eqb p (at xs (i - 1)).place) (eqb c (at xs (i - 1)).class) (eq-eqb p _ (sym e)) (eq-eqb c _ (sym f)))
+abbrev found : Option Step → Option ℕ → Option ℕ
+found None d = d
+found (Some s) d = Some s.target
 
-pub look_miss : (xs : List Step) (i p c : ℕ) → 0 < i → ((at xs (i - 1)).place ≡ p → (at xs (i - 1)).class ≡ c → ⊥) → pairs xs i p c ≡ pairs xs (i - 1) p c
-look_miss xs i p c h ne =
-    let k : i ≡ suc (i - 1) = omega arith in
-    ap (λ n. pairs xs n p c) k ∙ ap (λ g. g p c) (pairs_suc xs (i - 1))
-    ∙ sym (noted_other (pairs xs (i - 1)) (at xs (i - 1)).place (at xs (i - 1)).class (at xs (i - 1)).target p c (λ a b. ne (sym a) (sym b)))
+abbrev keyed : ℕ → ℕ → Step → Bool
+keyed p c s = eqb p s.place && eqb c s.class
 
+found_last : (o : Option Step) (b : Bool) (s : Step) (d : Option ℕ) → found (option_or o (cond b (Some s) None)) d ≡ found o (cond b (Some s.target) d)
+found_last None true s d = refl
+found_last None false s d = refl
+found_last (Some x) b s d = refl
+
+fold_look_up : (f : Map) (xs : List Step) (p c : ℕ) → found (find (keyed p c) (reverse xs)) (f p c) ≡ fold with_step f xs p c
+fold_look_up f [] p c = refl
+fold_look_up f (x ∷ xs) p c =
+    ap (λ ys. found (find (keyed p c) ys) (f p c)) (reverse-append (x ∷ []) xs)
+    ∙ ap (λ o. found o (f p c)) (find-append (keyed p c) (reverse xs) (x ∷ []))
+    ∙ found_last (find (keyed p c) (reverse xs)) (keyed p c x) x (f p c)
+    ∙ fold_look_up (with_step f x) xs p c
+
+pub pairs_look_up : (xs : List Step) (p c : ℕ) → option_map (λ s. s.target) (find (λ s. eqb p s.place && eqb c s.class) (reverse xs)) ≡ pairs xs p c
+pairs_look_up xs p c = mapped (find (keyed p c) (reverse xs)) ∙ fold_look_up nothing xs p c
+  where
+    mapped : (o : Option Step) → option_map (λ s. s.target) o ≡ found o None
+    mapped None = refl
+    mapped (Some s) = refl
+
+-- dropping
 none_both : (b : Bool) → ◌≡◌ {A = Option ℕ} (cond b None None) None
 none_both true = refl
 none_both false = refl
 
--- noting and dropping
-kept_step : (f : Map) (m : ℕ → Bool) (s : Step) → m s.place ≡ false → m s.target ≡ false → with_step (without f m) s ≡ without (with_step f s) m
-kept_step f m s a b =
+kept_step : (f : Map) (m : ℕ → Bool) (s : Step) → (m s.place || m s.target) ≡ false → with_step (without f m) s ≡ without (with_step f s) m
+kept_step f m s a =
+    let k = or_parts (m s.place) (m s.target) a in
     fun_ext
     (λ q. fun_ext
     (λ d.
     ⊎_elim
     (λ (h : (eqb q s.place && eqb d s.class) ≡ true).
     let e : q ≡ s.place = eqb-true q s.place (and_parts (eqb q s.place) (eqb d s.class) h).0 in
-    let mq : m q ≡ false = ap m e ∙ a in
-    rw (h, mq, b))
+    let mq : m q ≡ false = ap m e ∙ k.0 in
+    rw (h, mq, k.1))
     (λ (h : (eqb q s.place && eqb d s.class) ≡ false). rw h)
     (cases_Bool (eqb q s.place && eqb d s.class))))
 
@@ -124,80 +100,44 @@ gone_step f m s a lacks =
     (λ (h : (eqb q s.place && eqb d s.class) ≡ false). rw h)
     (cases_Bool (eqb q s.place && eqb d s.class))))
 
--- a turn of the loop that keeps steps
-pub record Kept (old : List Step) (m : ℕ → Bool) (i : ℕ) (xs : List Step) (k : ℕ) : Type 0 where
-  pub low : k ≤ i
-  pub map : pairs xs k ≡ without (pairs old i) m
-  pub distinct : distinct xs k ≡ true
-  pub rest : (j : ℕ) → i ≤ j → at xs j ≡ at old j
+-- the steps that are neither from nor to the places
+abbrev pub kept : (ℕ → Bool) → List Step → List Step
+kept m xs = filter (λ s. not (m s.place || m s.target)) xs
 
-pub kept_none : (old : List Step) (m : ℕ → Bool) → Kept old m 0 old 0
-kept_none old m = record {
-  low = omega arith;
-  map = pairs_zero old ∙ fun_ext (λ q. fun_ext (λ d. sym (none_both (m q)))) ∙ ap (λ f. without f m) (sym (pairs_zero old));
-  distinct = fine_zero old;
-  rest = λ j _. refl;
+new_without : (f : Map) (m : ℕ → Bool) (s : Step) → New f s → New (without f m) s
+new_without f m s k = record {
+  from = k.from;
+  to = k.to;
+  class = k.class;
+  lacks = ap (λ x. cond (m s.place) None (unless m x)) k.lacks ∙ none_both (m s.place);
 }
 
-one_more : (old : List Step) (i : ℕ) → pairs old (i + 1) ≡ with_step (pairs old i) (at old i)
-one_more old i = ap (pairs old) (add-one i) ∙ pairs_suc old i
+record Keeps (f : Map) (m : ℕ → Bool) (xs ys : List Step) : Type 0 where
+  pub map : fold with_step (without f m) ys ≡ without (fold with_step f xs) m
+  pub fine : new_in_turn (without f m) ys ≡ true
 
-without_none : (f : Map) (m : ℕ → Bool) (p c : ℕ) → f p c ≡ None → without f m p c ≡ None
-without_none f m p c e = ap (λ x. cond (m p) None (unless m x)) e ∙ none_both (m p)
+keeps : (f : Map) (m : ℕ → Bool) (xs : List Step) → new_in_turn f xs ≡ true → Keeps f m xs (kept m xs)
+keeps f m [] e = record { map = refl; fine = refl }
+keeps f m (s ∷ xs) e =
+    let a = first_new f s xs e in
+    let r : Keeps (with_step f s) m xs (kept m xs) = keeps (with_step f s) m xs a.1 in
+    ⊎_elim
+    (λ (h : (m s.place || m s.target) ≡ true).
+    let g : without f m ≡ without (with_step f s) m = gone_step f m s h a.0.lacks in
+    rw h (record { map = ap (λ g. fold with_step g (kept m xs)) g ∙ r.map; fine = ap (λ g. new_in_turn g (kept m xs)) g ∙ r.fine }))
+    (λ (h : (m s.place || m s.target) ≡ false).
+    let g : with_step (without f m) s ≡ without (with_step f s) m = kept_step f m s h in
+    rw h (record {
+      map = ap (λ g. fold with_step g (kept m xs)) g ∙ r.map;
+      fine = and_from (new (without f m) s) (new_in_turn (with_step (without f m) s) (kept m xs)) (new_from (without f m) s (new_without f m s a.0)) (ap (λ g. new_in_turn g (kept m xs)) g ∙ r.fine);
+    }))
+    (cases_Bool (m s.place || m s.target))
 
-pub kept_more : (old xs : List Step) (m : ℕ → Bool) (len i k : ℕ) → Kept old m i xs k → distinct old len ≡ true → i < len → len ≤ length xs → m (at xs i).place ≡ false → m (at xs i).target ≡ false → Kept old m (i + 1) (set xs k (at xs i)) (k + 1)
-kept_more old xs m len i k t ok hi len_low a b =
-    let s : at xs i ≡ at old i = t.rest i (omega arith) in
-    let l : k < length xs = omega (arith, t.low) in
-    let f : New (pairs old i) (at old i) = fine_at old len i ok hi in
-    let g : New (pairs old i) (at xs i) = subst (New (pairs old i)) (sym s) f in
-    let h : New (pairs xs k) (at xs i) = record {
-      from = g.from;
-      to = g.to;
-      class = g.class;
-      lacks = ap (λ y. y (at xs i).place (at xs i).class) t.map ∙ without_none (pairs old i) m (at xs i).place (at xs i).class g.lacks;
-    }
-    in
-    record {
-      low = omega (arith, t.low);
-      map = pairs_push xs k (at xs i) l ∙ ap (λ y. with_step y (at xs i)) t.map ∙ kept_step (pairs old i) m (at xs i) a b
-          ∙ ap (λ y. without (with_step (pairs old i) y) m) s ∙ ap (λ y. without y m) (sym (one_more old i));
-      distinct = fine_push xs k (at xs i) l t.distinct h;
-      rest = λ j (q : i + 1 ≤ j). get_or-set_other xs k j (at xs i) no_step (λ (e : j ≡ k). omega (arith, t.low)) ∙ t.rest j (omega arith);
-    }
+nothing_without : (m : ℕ → Bool) → without nothing m ≡ nothing
+nothing_without m = fun_ext (λ q. fun_ext (λ d. none_both (m q)))
 
-pub kept_less : (old xs : List Step) (m : ℕ → Bool) (len i k : ℕ) → Kept old m i xs k → distinct old len ≡ true → i < len → (m (at xs i).place || m (at xs i).target) ≡ true → Kept old m (i + 1) xs k
-kept_less old xs m len i k t ok hi a =
-    let s : at xs i ≡ at old i = t.rest i (omega arith) in
-    let f : New (pairs old i) (at old i) = fine_at old len i ok hi in
-    record {
-      low = omega (arith, t.low);
-      map = t.map ∙ gone_step (pairs old i) m (at old i) (ap (λ y. m y.place || m y.target) (sym s) ∙ a) f.lacks ∙ ap (λ y. without y m) (sym (one_more old i));
-      distinct = t.distinct;
-      rest = λ j (q : i + 1 ≤ j). t.rest j (omega arith);
-    }
+pub pairs_kept : (m : ℕ → Bool) (xs : List Step) → distinct xs ≡ true → pairs (kept m xs) ≡ without (pairs xs) m
+pairs_kept m xs e = ap (λ f. fold with_step f (kept m xs)) (sym (nothing_without m)) ∙ (keeps nothing m xs e).map
 
-pub carry : (P : List Step → ℕ → Type 0) (bs bs' : List Step) (a a' : ℕ) → bs' ≡ bs → a' ≡ a → P bs a → P bs' a'
-carry P bs bs' a a' e f x = subst (λ (y : List Step). P y a') (sym e) (subst (λ (b : ℕ). P bs b) (sym f) x)
-
-free_by : (n m : ℕ) (f : Map) (p c t : ℕ) → p < n → c < 256 → t < n → f p c ≡ None → size n f < m → true ≡ notable n m f p c t
-free_by n m f p c t hp hc ht e l = rw (lt-ltb p n hp, lt-ltb t n ht, lt-ltb c 256 hc, e, lt-ltb (size n f) m l)
-
-pub free_yes : (xs : List Step) (n p c t : ℕ) → distinct xs n ≡ true → n < 512 → p < 64 → c < 256 → t < 64 → pairs xs n p c ≡ None → true ≡ notable 64 512 (pairs xs n) p c t
-free_yes xs n p c t ok h hp hc ht e = free_by 64 512 (pairs xs n) p c t hp hc ht e (omega (arith, pairs_size xs n ok))
-
-and_false : (b : Bool) → (b && false) ≡ false
-and_false true = refl
-and_false false = refl
-
-free_full : (n m : ℕ) (f : Map) (p c t : ℕ) → m ≤ size n f → false ≡ notable n m f p c t
-free_full n m f p c t l =
-    sym
-    (ap (λ z. ltb p n && (ltb t n && (ltb c 256 && (is_none (f p c) && z)))) (le-ltb (size n f) m l)
-    ∙ ap (λ z. ltb p n && (ltb t n && (ltb c 256 && z))) (and_false (is_none (f p c)))
-    ∙ ap (λ z. ltb p n && (ltb t n && z)) (and_false (ltb c 256))
-    ∙ ap (λ z. ltb p n && z) (and_false (ltb t n))
-    ∙ and_false (ltb p n))
-
-pub free_no : (xs : List Step) (n p c t : ℕ) → distinct xs n ≡ true → 512 ≤ n → false ≡ notable 64 512 (pairs xs n) p c t
-free_no xs n p c t ok h = free_full 64 512 (pairs xs n) p c t (omega (arith, pairs_size xs n ok))
+pub distinct_kept : (m : ℕ → Bool) (xs : List Step) → distinct xs ≡ true → distinct (kept m xs) ≡ true
+distinct_kept m xs e = ap (λ f. new_in_turn f (kept m xs)) (sym (nothing_without m)) ∙ (keeps nothing m xs e).fine

@@ -1,14 +1,12 @@
 -- The pairs keep a shelf's bounds. The proof stands here and not among the proofs, because the ghost member `bounds` cites it.
-use Rattle.std.specs.Prelude.{◌≡◌, ℕ, zero, suc, ◌+◌, ◌<◌, ◌≤◌, true, false, cond, ◌&&◌, List, Some, None, Option, ◌==◌, ◌≢◌, nat_lt, refl}
-use Rattle.std.proofs.Common.{sym, ap, subst, ◌∙◌, ⊎_elim, arith}
+use Rattle.std.specs.Prelude.{◌≡◌, ℕ, ◌+◌, ◌<◌, ◌≤◌, true, false, cond, ◌&&◌, List, [], ◌∷◌, length, Some, None, Option, ◌==◌, nat_lt, refl}
+use Rattle.std.specs.List.{fold}
+use Rattle.std.proofs.Common.{sym, ap, ◌∙◌, ⊎_elim, arith}
 use Rattle.std.proofs.lemmas.Bool.{and_parts, ltb-true, eqb-true, both_ways, cases_Bool}
-use Rattle.memory.specs.Steps.{Map, size, Bounds, Within, noted, is_none, nothing}
+use Rattle.memory.specs.Steps.{Map, size, Bounds, Within, is_none, nothing}
 use Rattle.memory.proofs.Sizes.{size_noted, size_nothing}
 use Rattle.pair_shelf.specs.declared.step.Step.{Step}
-use Rattle.pair_shelf.specs.Pairs.{pairs, distinct, new, at}
-
-some_not : (t : ℕ) → None ≢ Some t
-some_not t e = let z : ◌≡◌ {A = ℕ} 0 1 = cc in omega arith
+use Rattle.pair_shelf.specs.Pairs.{pairs, distinct, new, new_in_turn, with_step}
 
 is_none_lem : (o : Option ℕ) → is_none o ≡ true → o ≡ None
 is_none_lem None e = refl
@@ -27,28 +25,20 @@ new_parts f s e =
     let d = and_parts (nat_lt s.class 256) _ b.1 in
     record { from = ltb-true s.place 64 a.0; to = ltb-true s.target 64 b.0; class = ltb-true s.class 256 d.0; lacks = is_none_lem (f s.place s.class) d.1 }
 
-pub fine_last : (xs : List Step) (n : ℕ) → distinct xs (suc n) ≡ true → New (pairs xs n) (at xs n) × (distinct xs n ≡ true)
-unfolding distinct
-fine_last xs n e = let a = and_parts (new (pairs xs n) (at xs n)) (distinct xs n) e in (new_parts (pairs xs n) (at xs n) a.0, a.1)
+-- the first step is new, and the others are on top of it
+pub first_new : (f : Map) (s : Step) (xs : List Step) → new_in_turn f (s ∷ xs) ≡ true → New f s × (new_in_turn (with_step f s) xs ≡ true)
+first_new f s xs e = let a = and_parts (new f s) (new_in_turn (with_step f s) xs) e in (new_parts f s a.0, a.1)
 
-pub pairs_zero : (xs : List Step) → pairs xs 0 ≡ nothing
-unfolding pairs
-pairs_zero xs = refl
+fold_size : (f : Map) (xs : List Step) → new_in_turn f xs ≡ true → size 64 (fold with_step f xs) ≡ size 64 f + length xs
+fold_size f [] e = omega arith
+fold_size f (s ∷ xs) e =
+    let a = first_new f s xs e in
+    omega (arith, fold_size (with_step f s) xs a.1, size_noted 64 f s.place s.class s.target a.0.from a.0.class a.0.lacks)
 
-pub pairs_suc : (xs : List Step) (n : ℕ) → pairs xs (suc n) ≡ noted (pairs xs n) (at xs n).place (at xs n).class (at xs n).target
-unfolding pairs
-pairs_suc xs n = refl
+pub pairs_size : (xs : List Step) → distinct xs ≡ true → size 64 (pairs xs) ≡ length xs
+pairs_size xs e = omega (arith, fold_size nothing xs e, size_nothing 64)
 
-pub pairs_size : (xs : List Step) (n : ℕ) → distinct xs n ≡ true → size 64 (pairs xs n) ≡ n
-pairs_size xs zero e = ap (size 64) (pairs_zero xs) ∙ size_nothing 64
-pairs_size xs (suc n) e =
-    let a = fine_last xs n e in
-    let s = a.0 in
-    let r : size 64 (pairs xs n) ≡ n = pairs_size xs n a.1 in
-    let q : size 64 (pairs xs (suc n)) ≡ size 64 (pairs xs n) + 1 = ap (size 64) (pairs_suc xs n) ∙ size_noted 64 (pairs xs n) (at xs n).place (at xs n).class (at xs n).target s.from s.class s.lacks in
-    omega arith
-
-noted_within : (f : Map) (s : Step) → New f s → Within 64 f → Within 64 (noted f s.place s.class s.target)
+noted_within : (f : Map) (s : Step) → New f s → Within 64 f → Within 64 (with_step f s)
 noted_within f s k w p c t e =
     ⊎_elim
     (λ (h : (p == s.place && c == s.class) ≡ true).
@@ -61,16 +51,17 @@ noted_within f s k w p c t e =
     (λ (h : (p == s.place && c == s.class) ≡ false). w p c t (sym (ap (λ x. cond x (Some s.target) (f p c)) h) ∙ e))
     (cases_Bool (p == s.place && c == s.class))
 
-pub pairs_within : (xs : List Step) (n : ℕ) → distinct xs n ≡ true → Within 64 (pairs xs n)
-pairs_within xs zero e = λ p c t h. absurd (some_not t (sym (ap (λ f. f p c) (pairs_zero xs)) ∙ h))
-pairs_within xs (suc n) e =
-    let a = fine_last xs n e in
-    subst (Within 64) (sym (pairs_suc xs n)) (noted_within (pairs xs n) (at xs n) a.0 (pairs_within xs n a.1))
+fold_within : (f : Map) (xs : List Step) → new_in_turn f xs ≡ true → Within 64 f → Within 64 (fold with_step f xs)
+fold_within f [] e w = w
+fold_within f (s ∷ xs) e w = let a = first_new f s xs e in fold_within (with_step f s) xs a.1 (noted_within f s a.0 w)
 
-pub pair_bounds : (xs : List Step) (n : ℕ) → n ≤ 512 → distinct xs n ≡ true → Bounds 64 512 (pairs xs n)
-pair_bounds xs n h e = record {
+nothing_within : Within 64 nothing
+nothing_within p c t h = cc
+
+pub pair_bounds : (xs : List Step) → length xs ≤ 512 → distinct xs ≡ true → Bounds 64 512 (pairs xs)
+pair_bounds xs h e = record {
   few = omega arith;
   some = λ _. omega arith;
-  within = pairs_within xs n e;
-  fits = omega (arith, pairs_size xs n e);
+  within = fold_within nothing xs e nothing_within;
+  fits = omega (arith, pairs_size xs e);
 }

@@ -1,24 +1,25 @@
--- A table of pairs: the map that its first n steps say, and that no two of them are from one place at one class.
-use Rattle.std.specs.Prelude.{ℕ, zero, suc, Bool, true, ◌&&◌, List, nat_lt, slice_index_or}
+-- A table of pairs: the map that its steps say, and that no two of them are from one place at one class.
+use Rattle.std.specs.Prelude.{Bool, true, ◌&&◌, List, [], ◌∷◌, nat_lt}
+use Rattle.std.specs.List.{fold}
 use Rattle.memory.specs.Steps.{Map, noted, is_none, nothing}
 use Rattle.pair_shelf.specs.declared.step.Step.{Step}
 
-abbrev pub no_step : Step
-no_step = record { place = 0; class = 0; target = 0 }
-
-abbrev pub at : List Step → ℕ → Step
-at xs i = slice_index_or xs i no_step
+abbrev pub with_step : Map → Step → Map
+with_step f s = noted f s.place s.class s.target
 
 -- each step is noted in turn
-unfoldable pub pairs : List Step → ℕ → Map
-pairs xs zero = nothing
-pairs xs (suc n) = noted (pairs xs n) (at xs n).place (at xs n).class (at xs n).target
+abbrev pub pairs : List Step → Map
+pairs xs = fold with_step nothing xs
 
 -- a step that the map lacks, within its bounds
 abbrev pub new : Map → Step → Bool
 new f s = nat_lt s.place 64 && (nat_lt s.target 64 && (nat_lt s.class 256 && is_none (f s.place s.class)))
 
+-- each step is new when it is noted, in turn, on top of a map
+abbrev pub new_in_turn : Map → List Step → Bool
+new_in_turn f [] = true
+new_in_turn f (s ∷ xs) = new f s && new_in_turn (with_step f s) xs
+
 -- each step was new when it was noted
-unfoldable pub distinct : List Step → ℕ → Bool
-distinct xs zero = true
-distinct xs (suc n) = new (pairs xs n) (at xs n) && distinct xs n
+abbrev pub distinct : List Step → Bool
+distinct xs = new_in_turn nothing xs

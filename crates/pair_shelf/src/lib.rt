@@ -3,7 +3,6 @@
 
 mod pair;
 mod step;
-mod table;
 
+pub use pair::PairShelf;
 pub use step::Step;
-pub use table::PairShelf;

@@ -1,25 +1,31 @@
-ghost use Rattle.std.specs.Prelude.{◌≡◌, ◌≤◌, true, length};
-ghost use Rattle.sets.specs.Places.{member};
-ghost use Rattle.memory.specs.Steps.{nothing, without};
+ghost use Rattle.std.specs.Prelude.{◌≡◌, ◌≤◌, ◌==◌, ◌&&◌, true, length, reverse};
+ghost use Rattle.std.specs.List.{find};
+ghost use Rattle.std.specs.Option.{option_map};
+ghost use Rattle.memory.specs.Steps.{nothing};
 ghost use Rattle.pair_shelf.specs.Bounded.{pair_bounds};
 ghost use Rattle.pair_shelf.specs.Pairs.{pairs, distinct};
 
 use crate::step::Step;
-use crate::table::PairShelf;
+use arrayvec::ArrayVec;
 use memory::shelf::Shelf;
 use sets::PlaceSet;
+
+// Up to 512 steps, no two from one place for one class.
+#[derive(Drop)]
+pub struct PairShelf {
+    steps: ArrayVec<Step, 512>,
+    ghost low: { length steps.items ≤ 512 },
+    ghost ok: { distinct steps.items ≡ true },
+}
 
 impl PairShelf {
     // A shelf without a step.
     pub fn new() -> PairShelf
-        ensures { pairs result.steps result.len ≡ nothing }
+        ensures { pairs result.steps.items ≡ nothing }
     {
-        let steps = [Step {
-            place: 0,
-            class: 0,
-            target: 0,
-        }; 512];
-        PairShelf { steps, len: 0 }
+        PairShelf {
+            steps: ArrayVec::new(),
+        }
     }
 }
 
@@ -28,89 +34,60 @@ impl Shelf for PairShelf {
 
     ghost most = { λ _. 512 };
 
-    ghost steps = { λ s. pairs s.steps s.len };
+    ghost steps = { λ s. pairs s.steps.items };
 
     ghost sound = { λ _. Unit {0} };
 
-    ghost bounds = { λ s. pair_bounds s.steps s.len s.low s.ok };
+    ghost bounds = { λ s. pair_bounds s.steps.items s.low s.ok };
 
     fn places(&self) -> u8 {
         64
     }
 
     fn capacity(&self) -> usize {
-        512
+        self.steps.capacity()
     }
 
     fn know(&self, place: u8, class: u16) -> Option<u8> {
-        find_step(&self.steps, self.len, place, class)
+        find_step(&self.steps, place, class)
     }
 
     fn count(&self) -> usize {
-        self.len
+        self.steps.len()
     }
 
     fn empty(&mut self) {
-        self.len = 0;
+        self.steps.clear();
     }
 
     fn note(&mut self, place: u8, class: u16, target: u8) -> bool {
         if place >= 64 || target >= 64 || class >= 256 {
             return false;
         }
-        let len = self.len;
-        if len >= 512 {
+        if self.steps.is_full() || self.know(place, class).is_some() {
             return false;
         }
-        if let Some(_) = find_step(&self.steps, len, place, class) {
-            return false;
-        }
-        self.steps[len] = Step {
+        self.steps.push(Step {
             place,
             class,
             target,
-        };
-        self.len = len + 1;
+        });
         true
     }
 
     fn drop_places(&mut self, places: PlaceSet) -> usize {
-        let len = self.len;
-        let kept = keep_steps(&mut self.steps, len, places);
-        self.len = kept;
-        len - kept
+        let before = self.steps.len();
+        self.steps.retain(|s| !s.touches(places));
+        before - self.steps.len()
     }
 }
 
-fn find_step(steps: &[Step], len: usize, place: u8, class: u16) -> Option<u8>
-    requires { len ≤ length steps.now }
-    ensures { result ≡ pairs steps.now len place class }
+fn find_step(steps: &[Step], place: u8, class: u16) -> Option<u8>
+    ensures { result ≡ option_map (λ s. s.target) (find (λ s. place == s.place && class == s.class) (reverse steps.now)) }
 {
-    let mut i = len;
-    while i > 0 {
-        i -= 1;
-        let s = steps[i];
-        if s.place == place && s.class == class {
-            return Some(s.target);
-        }
-    }
-    None
-}
-
-// Keeps the steps that are neither from nor to the places, in their order.
-fn keep_steps(steps: &mut [Step], len: usize, places: PlaceSet) -> usize
-    requires { (len ≤ length steps.old) × (distinct steps.old len ≡ true) }
-    ensures low { result ≤ len }
-    ensures fine { distinct steps.new result ≡ true }
-    ensures map { pairs steps.new result ≡ without (pairs steps.old len) (member places) }
-{
-    let mut n = 0;
-    for i in 0..len {
-        let s = steps[i];
-        if !places.has(s.place) && !places.has(s.target) {
-            steps[n] = s;
-            n += 1;
-        }
-    }
-    n
+    steps
+        .iter()
+        .rev()
+        .find(|s| place == s.place && class == s.class)
+        .map(|s| s.target)
 }
