@@ -1,10 +1,13 @@
-use Rattle.std.proofs.Common.{◌≡◌, ℕ, ◌+◌, ◌*◌, ◌/◌, ◌%◌, ◌<◌, ◌≤◌, Bool, true, false, cond, ◌&&◌, ltb, ◌≢◌, ◌⊎◌, List, length, get_or, set, Some, None, sym, refl, ap, ◌∙◌, subst, inl, inr, ⊎_elim, mul-le-mul_left, arith, get_or-set_other, get_or-set_same, drop-set-lt}
+use Rattle.std.proofs.Common.{◌≡◌, ℕ, ◌+◌, ◌-◌, ◌*◌, ◌/◌, ◌%◌, ◌<◌, ◌≤◌, Bool, true, false, cond, ◌&&◌, ltb, ◌≢◌, ◌⊎◌, List, length, ◌++◌, take, drop, get_or, set, None, sym, refl, ap, ◌∙◌, subst, inl, inr, ⊎_elim, mul-le-mul_left, arith, get_or-set_other, get_or-set_same, drop-set-lt, rules}
 use mathlib.Core.Path.{fun_ext}
+use borrow.Rule.Slice.PartMut.{put_mid, post_of}
+use Rattle.std.proofs.lemmas.List.{get_or-append_right, get_or_append_left, set-append_right, set-append_left, length-take-le, get_or-take, take-append-drop, places}
+use Rattle.std.proofs.lemmas.Slice.{drop-put_mid}
 use Rattle.std.proofs.lemmas.Bool.{cases_eq, cases_lt, eq-eqb, lt-ltb, le-ltb}
 use Rattle.std.proofs.lemmas.Nat.{div-mul-add, mod-mul-add, mul-add-lt}
-use Rattle.memory.specs.Steps.{Map, noted, size, notable, nothing}
-use Rattle.memory.proofs.Sizes.{size_lt, noted_other, size_noted, notable_parts}
-use Rattle.dense_shelf.specs.Rows.{dense, rows, target, wider, behind}
+use Rattle.memory.specs.Steps.{noted, nothing}
+use Rattle.memory.proofs.Sizes.{noted_other}
+use Rattle.dense_shelf.specs.Rows.{dense, target, wider, behind}
 
 -- a byte's place gives its row and its column
 one_place : (n q d p c : ℕ) → q < n → p < n → d * n + q ≡ c * n + p → (q ≡ p) × (d ≡ c)
@@ -88,16 +91,6 @@ dense_wide bs bs' n w v hv hn same new =
     (λ (a : n ≤ q). rw (le-ltb q n a))
     (cases_lt q n)))
 
-pub free_yes : (bs : List ℕ) (n w p c t : ℕ) → p < n → c < 256 → t < n → dense bs n w p c ≡ None → true ≡ notable n (256 * n) (dense bs n w) p c t
-free_yes bs n w p c t hp hc ht none =
-    free_by n (256 * n) (dense bs n w) p c t hp hc ht none (size_lt n (dense bs n w) p c hp hc none)
-  where
-    free_by : (n m : ℕ) (f : Map) (p c t : ℕ) → p < n → c < 256 → t < n → f p c ≡ None → size n f < m → true ≡ notable n m f p c t
-    free_by n m f p c t hp hc ht e l = rw (lt-ltb p n hp, lt-ltb t n ht, lt-ltb c 256 hc, e, lt-ltb (size n f) m l)
-
-pub free_none : (n m : ℕ) (f : Map) (p c t k : ℕ) → f p c ≡ Some k → false ≡ notable n m f p c t
-free_none n m f p c t k e = rw e (sym (ap (λ x. ltb p n && x) (ap (λ x. ltb t n && x) (and_false (ltb c 256)) ∙ and_false (ltb t n)) ∙ and_false (ltb p n)))
-
 pub dense_empty : (bs : List ℕ) (n : ℕ) → dense bs n 0 ≡ nothing
 dense_empty bs n =
     fun_ext
@@ -106,44 +99,56 @@ dense_empty bs n =
     let h : 0 ≤ d = omega arith in
     ap (λ x. cond x (target n (get_or bs (d * n + q) 0)) None) (ap (λ x. ltb q n && x) (le-ltb d 0 h) ∙ and_false (ltb q n))))
 
--- a note in a row in use, or in one that was just brought into use
-pub note_kept : (old bs bs' : List ℕ) (n w p c t : ℕ) → bs' ≡ bs → bs ≡ old → c < w → p < n → t < n → c * n + p < length bs' → dense (set bs' (c * n + p) t) n (wider w c) ≡ noted (dense old n w) p c t
-note_kept old bs bs' n w p c t e f hc hp ht l =
-    ap (λ v. dense (set bs' (c * n + p) t) n v) (ap (λ x. cond x w (c + 1)) (lt-ltb c w hc))
-    ∙ dense_set bs' n w p c t hp hc ht l
-    ∙ ap (λ x. noted (dense x n w) p c t) (e ∙ f)
+-- the bytes once those from a on are the row
+abbrev pub with_row : List ℕ → ℕ → ℕ → List ℕ → List ℕ
+with_row bs a e row = put_mid a (e - a) bs row
 
-pub note_wide : (old bs bs' : List ℕ) (n w p c t : ℕ) → bs' ≡ bs → dense bs n (c + 1) ≡ dense old n w → w ≤ c → p < n → t < n → c * n + p < length bs' → dense (set bs' (c * n + p) t) n (wider w c) ≡ noted (dense old n w) p c t
-note_wide old bs bs' n w p c t e f hc hp ht l =
-    let k : c < c + 1 = omega arith in
-    ap (λ v. dense (set bs' (c * n + p) t) n v) (ap (λ x. cond x w (c + 1)) (le-ltb c w hc))
-    ∙ dense_set bs' n (c + 1) p c t hp k ht l
-    ∙ ap (λ x. noted (dense x n (c + 1)) p c t) e
-    ∙ ap (λ x. noted x p c t) f
+pub row_get : (bs : List ℕ) (a e : ℕ) (row : List ℕ) (k : ℕ) → a ≤ length bs → k < length row → get_or (with_row bs a e row) (a + k) 0 ≡ get_or row k 0
+row_get bs a e row k ha hk =
+    let i : a + k - a ≡ k = omega arith in
+    get_or-append_right (take a bs) (row ++ post_of a (e - a) bs) a (a + k) 0 (length-take-le a bs ha) (omega arith)
+    ∙ ap (λ j. get_or (row ++ post_of a (e - a) bs) j 0) i
+    ∙ get_or_append_left row (post_of a (e - a) bs) 0 k hk
 
--- a note, as the shelf has it
-pub record Whole (old bs : List ℕ) (w w' p c t count more : ℕ) : Type 0 where
-  pub room : rows (length bs) ≡ rows (length old)
-  pub answer : true ≡ notable (rows (length old)) (256 * rows (length old)) (dense old (rows (length old)) w) p c t
-  pub map : dense bs (rows (length bs)) w' ≡ noted (dense old (rows (length old)) w) p c t
-  pub sound : count ≡ size (rows (length old)) (dense old (rows (length old)) w) → more ≡ size (rows (length bs)) (dense bs (rows (length bs)) w')
+pub row_set : (bs : List ℕ) (a e : ℕ) (row : List ℕ) (k x : ℕ) → a ≤ length bs → k < length row → with_row bs a e (set row k x) ≡ set (with_row bs a e row) (a + k) x
+row_set bs a e row k x ha hk =
+    let i : a + k - a ≡ k = omega arith in
+    sym
+    (set-append_right (take a bs) (row ++ post_of a (e - a) bs) a (a + k) x (length-take-le a bs ha) (omega arith)
+    ∙ ap (λ j. take a bs ++ set (row ++ post_of a (e - a) bs) j x) i
+    ∙ ap (λ ys. take a bs ++ ys) (set-append_left row (post_of a (e - a) bs) k x hk))
 
-whole_at : (old bs : List ℕ) (n w w' p c t count more : ℕ) → rows (length bs) ≡ n → rows (length old) ≡ n → n ≤ 64 → true ≡ notable n (256 * n) (dense old n w) p c t → dense bs n w' ≡ noted (dense old n w) p c t → (count < 16384 → more ≡ count + 1) → count ≡ size n (dense old n w) → more ≡ size n (dense bs n w')
-whole_at old bs n w w' p c t count more e f few a m k s =
-    let q = notable_parts n (256 * n) (dense old n w) p c t (sym a) in
-    let z : size n (dense bs n w') ≡ size n (dense old n w) + 1 = ap (size n) m ∙ size_noted n (dense old n w) p c t q.place q.class q.lacks in
-    let l : count < 16384 = omega (arith, q.room) in
-    omega (arith, k l)
+row_below : (bs : List ℕ) (a e : ℕ) (row : List ℕ) (j : ℕ) → a ≤ length bs → j < a → get_or (with_row bs a e row) j 0 ≡ get_or bs j 0
+row_below bs a e row j ha hj =
+    let l : length (take a bs) ≡ a = length-take-le a bs ha in
+    get_or_append_left (take a bs) (row ++ post_of a (e - a) bs) 0 j (omega arith) ∙ get_or-take a bs j 0 hj
 
-pub whole : (old bs : List ℕ) (n w w' p c t count more : ℕ) → length bs ≡ length old → n ≡ rows (length old) → n ≤ 64 → true ≡ notable n (256 * n) (dense old n w) p c t → dense bs n (wider w c) ≡ noted (dense old n w) p c t → (c < 256 → w' ≡ wider w c) → (count < 16384 → more ≡ count + 1) → Whole old bs w w' p c t count more
-whole old bs n w w' p c t count more len is few a m r k =
-    let f : rows (length old) ≡ n = sym is in
-    let e : rows (length bs) ≡ n = ap rows len ∙ sym is in
-    let hc : c < 256 = (notable_parts n (256 * n) (dense old n w) p c t (sym a)).class in
-    let m' : dense bs n w' ≡ noted (dense old n w) p c t = ap (dense bs n) (r hc) ∙ m in
-    record {
-      room = ap rows len;
-      answer = subst (λ (x : ℕ). true ≡ notable x (256 * x) (dense old x w) p c t) is a;
-      map = ap (λ x. dense bs x w') e ∙ m' ∙ ap (λ x. noted (dense old x w) p c t) is;
-      sound = λ s. whole_at old bs n w w' p c t count more e f few a m' k (s ∙ ap (λ x. size x (dense old x w)) f) ∙ ap (λ x. size x (dense bs x w')) (sym e);
-    }
+pub length-row : (bs : List ℕ) (a e : ℕ) (row : List ℕ) → a ≤ e → e ≤ length bs → length row ≡ e - a → length (with_row bs a e row) ≡ length bs
+length-row bs a e row ha he hr = search (rules, places)
+
+pub row_same : (bs : List ℕ) (a e : ℕ) → a ≤ e → e ≤ length bs → with_row bs a e (take (e - a) (drop a bs)) ≡ bs
+row_same bs a e ha he = ap (λ ys. take a bs ++ ys) (take-append-drop (e - a) (drop a bs)) ∙ take-append-drop a bs
+
+-- the row of a class lies within the bytes
+pub row_fits : (n w c k : ℕ) → c < w → w ≤ 256 → n * 256 ≤ k → c * n + n ≤ k
+row_fits n w c k hc hw h = let l : n * (c + 1) ≤ n * 256 = mul-le-mul_left n (omega arith) in omega arith
+
+-- rows that were filled with what is no step
+pub filled_wide : (bs : List ℕ) (n w v : ℕ) (row : List ℕ) → w ≤ v → v ≤ 256 → n ≤ 64 → n * 256 ≤ length bs → length row ≡ v * n - w * n → ((k : ℕ) → k < length row → get_or row k 0 ≡ 255) → dense (with_row bs (w * n) (v * n) row) n v ≡ dense bs n w
+filled_wide bs n w v row hv low hn fit len all =
+    let a : w * n ≤ length bs = cells_fit n w (length bs) (omega arith) fit in
+    dense_wide bs (with_row bs (w * n) (v * n) row) n w v hv hn
+    (λ j h. row_below bs (w * n) (v * n) row j a h)
+    (λ j (h : w * n ≤ j) (l : j < v * n).
+    let k : w * n + (j - w * n) ≡ j = omega arith in
+    let in_row : j - w * n < length row = omega arith in
+    ap (λ i. get_or (with_row bs (w * n) (v * n) row) i 0) (sym k) ∙ row_get bs (w * n) (v * n) row (j - w * n) a in_row ∙ all (j - w * n) in_row)
+
+pub filled_behind : (bs : List ℕ) (n w v : ℕ) (row : List ℕ) → w ≤ v → v ≤ 256 → n * 256 ≤ length bs → length row ≡ v * n - w * n → behind n (with_row bs (w * n) (v * n) row) ≡ behind n bs
+filled_behind bs n w v row hv low fit len =
+    let a : n * w ≤ n * v = mul-le-mul_left n hv in
+    let b : n * v ≤ n * 256 = mul-le-mul_left n low in
+    drop-put_mid (w * n) (v * n - w * n) bs row (256 * n) (omega arith) (omega arith) len
+
+pub wider_low : (w c : ℕ) → c < wider w c
+wider_low w c = ⊎_elim (λ (h : c < w). rw (lt-ltb c w h) h) (λ (h : w ≤ c). rw (le-ltb c w h) (omega arith)) (cases_lt c w)

@@ -6,6 +6,8 @@ use Rattle.memory.specs.Steps.{Map, without, unless}
 use Rattle.memory.proofs.Sizes.{size_put, size_le}
 use Rattle.dense_shelf.specs.Rows.{dense, target, behind}
 use Rattle.dense_shelf.specs.Sweep.{Swept, Clean}
+use Rattle.dense_shelf.specs.Kept.{map_in, Untouched}
+use Rattle.dense_shelf.specs.declared.rows.Rows.{Rows}
 use Rattle.dense_shelf.proofs.Cells.{same_key, dense_other, dense_here, dense_is, cell_low, behind_set}
 
 some_not : (t : ℕ) → None ≡ Some t → ⊥
@@ -133,22 +135,37 @@ pub clean_row : (bs : List ℕ) (n w : ℕ) (m : ℕ → Bool) (c : ℕ) → ((q
 clean_row bs n w m c h q = ⊎_elim (λ (l : q < n). h q l) (λ (l : n ≤ q). clean_none m (dense bs n w) q c (rw (le-ltb q n l))) (cases_lt q n)
 
 -- a turn of the loop over the rows
-abbrev pub RowsInv : List ℕ → ℕ → ℕ → (ℕ → Bool) → ℕ → List ℕ → ℕ → Type 0
-RowsInv old n w m c bs gone = Swept n m (dense old n w) (dense bs n w) gone × ((d : ℕ) → d < c → (q : ℕ) → Clean m (dense bs n w) q d) × (behind n bs ≡ behind n old)
+pub record RowsSwept (n : ℕ) (m : ℕ → Bool) (f g : Map) (c gone : ℕ) : Type 0 where
+  pub swept : Swept n m f g gone
+  pub clean : (d : ℕ) → d < c → (q : ℕ) → Clean m g q d
 
-pub rows_more : (old bs bs' : List ℕ) (n w : ℕ) (m : ℕ → Bool) (c gone a : ℕ) → RowsInv old n w m c bs gone → Swept n m (dense bs n w) (dense bs' n w) a → ((q : ℕ) → Clean m (dense bs' n w) q c) → behind n bs' ≡ behind n bs → RowsInv old n w m (c + 1) bs' (gone + a)
-rows_more old bs bs' n w m c gone a inv s row e = (
-  swept_more n m (dense old n w) (dense bs n w) (dense bs' n w) gone a inv.0 s,
-  at_more (λ d. (q : ℕ) → Clean m (dense bs' n w) q d) c (λ d h q. clean_fewer n m (dense bs n w) (dense bs' n w) a q d s (inv.1 d h q)) row,
-  e ∙ inv.2,
-)
+pub rows_none : (n : ℕ) (m : ℕ → Bool) (f : Map) → RowsSwept n m f f 0 0
+rows_none n m f = record { swept = swept_none n m f; clean = λ d (h : d < 0). absurd (omega arith) }
 
-pub all_clean : (bs : List ℕ) (n w : ℕ) (m : ℕ → Bool) (f : Map) (a : ℕ) → Swept n m f (dense bs n w) a → ((d : ℕ) → d < w → (q : ℕ) → Clean m (dense bs n w) q d) → dense bs n w ≡ without f m
-all_clean bs n w m f a s h =
+pub rows_more : (n : ℕ) (m : ℕ → Bool) (f g h : Map) (c gone a : ℕ) → RowsSwept n m f g c gone → Swept n m g h a → ((q : ℕ) → Clean m h q c) → RowsSwept n m f h (c + 1) (gone + a)
+rows_more n m f g h c gone a inv s row = record {
+  swept = swept_more n m f g h gone a inv.swept s;
+  clean = at_more (λ d. (q : ℕ) → Clean m h q d) c (λ d l q. clean_fewer n m g h a q d s (inv.clean d l q)) row;
+}
+
+pub all_clean : (r : Rows) (n : ℕ) (m : ℕ → Bool) (f : Map) (c gone : ℕ) → RowsSwept n m f (map_in r) c gone → r.used ≤ c → map_in r ≡ without f m
+all_clean r n m f c gone inv h =
     fun_ext
     (λ q. fun_ext
-    (λ d. ⊎_elim (λ (l : d < w). h d l q) (λ (l : w ≤ d). clean_none m (dense bs n w) q d (none_above bs n w q d l)) (cases_lt d w)))
-    ∙ s.same
+    (λ d.
+    ⊎_elim
+    (λ (l : d < r.used). inv.clean d (omega arith) q)
+    (λ (l : r.used ≤ d). clean_none m (map_in r) q d (none_above r.bytes.now r.places r.used q d l))
+    (cases_lt d r.used)))
+    ∙ inv.swept.same
+
+-- what two calls leave of the bytes, one after the other
+pub untouched_more : (a b c : Rows) → Untouched a b → Untouched b c → Untouched a c
+untouched_more a b c x y = record {
+  lender = y.lender ∙ x.lender;
+  places = y.places ∙ x.places;
+  rest = subst (λ (n : ℕ). behind n c.bytes.now ≡ behind n b.bytes.now) x.places y.rest ∙ x.rest;
+}
 
 -- one place: a row in which the step from it is gone already
 or_true : (x : Bool) → (x || true) ≡ true

@@ -1,17 +1,10 @@
 -- The dense rows keep a shelf's bounds. The proof stands here and not among the proofs, because the ghost member `bounds` cites it.
-use Rattle.std.specs.Prelude.{◌≡◌, ℕ, ◌+◌, ◌*◌, ◌<◌, ◌≤◌, cond, List, length, Some, None, ◌≢◌, slice_index}
+use Rattle.std.specs.Prelude.{◌≡◌, ℕ, ◌+◌, ◌*◌, ◌<◌, ◌≤◌, cond, List, Some, None, ◌≢◌, slice_index}
 use Rattle.std.proofs.Common.{sym, ap, ◌∙◌, ⊎_elim, arith}
 use Rattle.std.proofs.lemmas.Bool.{cases_lt, lt-ltb, le-ltb}
 use Rattle.memory.specs.Steps.{Bounds, Within}
 use Rattle.memory.proofs.Sizes.{size_le}
-use Rattle.dense_shelf.specs.Rows.{dense, rows, target}
-
-pub rows_few : (n : ℕ) → rows n ≤ 64
-rows_few n =
-    ⊎_elim
-    (λ (h : n < 16384). rw (lt-ltb n 16384 h) (omega arith))
-    (λ (h : 16384 ≤ n). rw (le-ltb n 16384 h) (omega arith))
-    (cases_lt n 16384)
+use Rattle.dense_shelf.specs.Rows.{dense, target}
 
 some_not : (t : ℕ) → None ≢ Some t
 some_not t e = let z : ◌≡◌ {A = ℕ} 0 1 = cc in omega arith
@@ -35,10 +28,10 @@ dense_within bs n w hw p c t e =
     (λ (a : n ≤ p). absurd (some_not t (rw (le-ltb p n a) at e)))
     (cases_lt p n)
 
-pub dense_bounds : (bs : List ℕ) (w : ℕ) → w ≤ 256 → Bounds (rows (length bs)) (256 * rows (length bs)) (dense bs (rows (length bs)) w)
-dense_bounds bs w h = record {
-  few = rows_few (length bs);
+pub dense_bounds : (bs : List ℕ) (n w : ℕ) → n ≤ 64 → w ≤ 256 → Bounds n (256 * n) (dense bs n w)
+dense_bounds bs n w few low = record {
+  few = few;
   some = λ h. omega arith;
-  within = dense_within bs (rows (length bs)) w h;
-  fits = size_le (rows (length bs)) (dense bs (rows (length bs)) w);
+  within = dense_within bs n w low;
+  fits = size_le n (dense bs n w);
 }

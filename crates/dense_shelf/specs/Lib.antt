@@ -2,3 +2,4 @@ pub mod Rows
 pub mod Sweep
 pub mod Bounded
 pub mod Dense
+pub mod Kept

@@ -1,5 +1,5 @@
 -- The dense rows: one of n places for each of the first w classes. A byte that names no place is no step, and bytes behind these rows say nothing.
-use Rattle.std.specs.Prelude.{ℕ, ◌+◌, ◌*◌, ◌/◌, cond, ◌&&◌, List, drop, Some, None, Option, nat_lt, slice_index}
+use Rattle.std.specs.Prelude.{ℕ, ◌+◌, ◌*◌, ◌/◌, cond, ◌&&◌, min, List, drop, Some, None, Option, nat_lt, slice_index}
 use Rattle.memory.specs.Steps.{Map}
 
 -- what a byte says, of n places
@@ -12,7 +12,7 @@ dense bs n w = λ p c. cond (nat_lt p n && nat_lt c w) (target n (slice_index bs
 
 -- how many places so many bytes serve: 256 bytes a place, at most 64 places
 abbrev pub rows : ℕ → ℕ
-rows len = cond (nat_lt len 16384) (len / 256) 64
+rows len = min (len / 256) 64
 
 -- the watermark once class c is in use
 abbrev pub wider : ℕ → ℕ → ℕ

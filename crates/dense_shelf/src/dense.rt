@@ -1,12 +1,12 @@
-ghost use Rattle.std.specs.Prelude.{◌≡◌, ◌+◌, ◌*◌, ◌<◌};
+ghost use Rattle.std.specs.Prelude.{◌≡◌, ◌+◌, ◌*◌, length};
 ghost use Rattle.sets.specs.Places.{member};
 ghost use Rattle.memory.specs.Steps.{size, nothing, notable, after, without};
 ghost use Rattle.dense_shelf.specs.Bounded.{dense_bounds};
-ghost use Rattle.dense_shelf.specs.Dense.{room_of, map_of, counted, Untouched};
-ghost use Rattle.dense_shelf.specs.Rows.{wider};
+ghost use Rattle.dense_shelf.specs.Dense.{room_of, map_of, counted};
+ghost use Rattle.dense_shelf.specs.Kept.{Untouched};
+ghost use Rattle.dense_shelf.specs.Rows.{rows as served};
 
-use crate::layout::{forget, look_up, note_step};
-use crate::watermark::Watermark;
+use crate::rows::Rows;
 use memory::shelf::Shelf;
 use sets::PlaceSet;
 
@@ -15,22 +15,21 @@ use sets::PlaceSet;
 // writes no byte.
 #[derive(Drop)]
 pub struct DenseShelf<'a> {
-    bytes: &'a mut [u8],
-    used: Watermark,
+    rows: Rows<'a>,
     count: usize,
 }
 
 impl<'a> DenseShelf<'a> {
     // A shelf on the bytes, without a step, whatever the bytes are.
     pub fn new(bytes: &'a mut [u8]) -> DenseShelf<'a>
-        ensures bytes { result.bytes.now ≡ bytes.old }
-        ensures lender { result.bytes.ghost_name ≡ bytes.entry.ghost_name }
+        ensures bytes { result.rows.bytes.now ≡ bytes.old }
+        ensures lender { result.rows.bytes.ghost_name ≡ bytes.entry.ghost_name }
+        ensures room { room_of result ≡ served (length bytes.old) }
         ensures map { map_of result ≡ nothing }
         ensures sound { counted result }
     {
         DenseShelf {
-            bytes,
-            used: Watermark { classes: 0 },
+            rows: Rows::new(bytes),
             count: 0,
         }
     }
@@ -45,11 +44,10 @@ impl<'a> Shelf for DenseShelf<'a> {
 
     ghost sound = { λ s. counted s };
 
-    ghost bounds = { λ s. dense_bounds s.bytes.now s.used.classes s.used.low };
+    ghost bounds = { λ s. dense_bounds s.rows.bytes.now s.rows.places s.rows.used s.rows.few s.rows.low };
 
     fn places(&self) -> u8 {
-        let n = self.bytes.len();
-        if n < 16384 { (n / 256) as u8 } else { 64 }
+        self.rows.places
     }
 
     fn capacity(&self) -> usize {
@@ -57,8 +55,7 @@ impl<'a> Shelf for DenseShelf<'a> {
     }
 
     fn know(&self, place: u8, class: u16) -> Option<u8> {
-        let n = self.places();
-        look_up(self.bytes, n, self.used.classes, place, class)
+        self.rows.know(place, class)
     }
 
     fn count(&self) -> usize {
@@ -70,9 +67,9 @@ impl<'a> Shelf for DenseShelf<'a> {
         ensures most { 256 * room_of self.new ≡ 256 * room_of self.old }
         ensures map { map_of self.new ≡ nothing }
         ensures sound { counted self.new }
-        ensures untouched { Untouched self.old self.new }
+        ensures untouched { Untouched self.old.rows self.new.rows }
     {
-        self.used = Watermark { classes: 0 };
+        self.rows.used = 0;
         self.count = 0;
     }
 
@@ -82,17 +79,13 @@ impl<'a> Shelf for DenseShelf<'a> {
         ensures sound { counted self.old → counted self.new }
         ensures answer { result ≡ notable (room_of self.old) (256 * room_of self.old) (map_of self.old) place class target }
         ensures map { map_of self.new ≡ after result (map_of self.old) place class target }
-        ensures untouched { Untouched self.old self.new }
+        ensures untouched { Untouched self.old.rows self.new.rows }
     {
-        let n = self.places();
-        let used = self.used.classes;
-        let new = note_step(self.bytes, n, used, place, class, target);
-        if !new {
-            return false;
+        let new = self.rows.note(place, class, target);
+        if new {
+            self.count = self.count.saturating_add(1);
         }
-        self.used = raised(self.used, class);
-        self.count = one_more(self.count);
-        true
+        new
     }
 
     fn drop_places(&mut self, places: PlaceSet) -> usize
@@ -101,30 +94,10 @@ impl<'a> Shelf for DenseShelf<'a> {
         ensures sound { counted self.old → counted self.new }
         ensures map { map_of self.new ≡ without (map_of self.old) (member places) }
         ensures answer { result + size (room_of self.new) (map_of self.new) ≡ size (room_of self.old) (map_of self.old) }
-        ensures untouched { Untouched self.old self.new }
+        ensures untouched { Untouched self.old.rows self.new.rows }
     {
-        let n = self.places();
-        let used = self.used.classes;
-        let gone = forget(self.bytes, n, used, places);
+        let gone = self.rows.forget(places);
         self.count = self.count.saturating_sub(gone);
         gone
     }
-}
-
-// The watermark once the class is in use.
-fn raised(used: Watermark, class: u16) -> Watermark
-    ensures { class < 256 → result.classes ≡ wider used.classes class }
-{
-    if class >= used.classes && class < 256 {
-        Watermark { classes: class + 1 }
-    } else {
-        used
-    }
-}
-
-// The count with one step more, of the most that a dense shelf can hold.
-fn one_more(count: usize) -> usize
-    ensures { count < 16384 → result ≡ count + 1 }
-{
-    if count < 16384 { count + 1 } else { count }
 }

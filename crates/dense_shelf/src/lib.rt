@@ -2,8 +2,6 @@
 #![tactic(auto)]
 
 mod dense;
-mod layout;
-mod watermark;
+mod rows;
 
 pub use dense::DenseShelf;
-pub use watermark::Watermark;

@@ -1,25 +1,15 @@
-use Rattle.std.proofs.Common.{◌*◌, ◌≤◌, length, sym, refl, ap, ◌∙◌, arith}
-use Rattle.dense_shelf.specs.Bounded.{rows_few}
-use Rattle.dense_shelf.specs.Rows.{behind}
-use Rattle.dense_shelf.proofs.Cells.{Whole, whole}
+use Rattle.std.proofs.Common.{◌≡◌, ◌+◌, ◌*◌, sym, ap, ◌∙◌, arith}
+use Rattle.memory.specs.Steps.{size}
+use Rattle.memory.proofs.Sizes.{size_noted, notable_parts}
+use Rattle.dense_shelf.specs.Kept.{map_in}
 use Rattle.dense_shelf.proofs.dense.DenseShelfShelf.note.Goals as goal
 
-pub returns : goal.returns
-returns c =
-    let s = c.args.self.now in
-    let few : c.places-n.result ≤ 64 = omega (arith, c.places-n.ensures, rows_few (length s.bytes.now)) in
-    let w : Whole s.bytes.now c.note_step-new.new.bytes s.used.classes c.raised-self.result.classes c.args.place c.args.class c.args.target s.count c.one_more-self.result =
-    whole s.bytes.now c.note_step-new.new.bytes c.places-n.result s.used.classes c.raised-self.result.classes c.args.place c.args.class c.args.target s.count c.one_more-self.result
-    c.note_step-new.ensures.length c.places-n.ensures few c.if-not-new.ensures.answer c.if-not-new.ensures.map c.raised-self.ensures c.one_more-self.ensures
+pub returns-then-new-clause-sound : goal.returns-then-new-clause-sound
+returns-then-new-clause-sound c = λ s.
+    let r = c.args.self.now.rows in
+    let e = c.if-new.ensures in
+    let q = notable_parts r.places (256 * r.places) (map_in r) c.args.place c.args.class c.args.target (sym e.answer) in
+    let z : size c.note-new.new.self.places (map_in c.note-new.new.self) ≡ size r.places (map_in r) + 1 =
+    ap (λ n. size n (map_in c.note-new.new.self)) e.untouched.places ∙ ap (size r.places) e.map ∙ size_noted r.places (map_in r) c.args.place c.args.class c.args.target q.place q.class q.lacks
     in
-    record {
-      room = w.room;
-      most = ap (λ x. 256 * x) w.room;
-      sound = w.sound;
-      answer = w.answer;
-      map = w.map;
-      untouched = record {
-        lender = refl;
-        rest = ap (λ x. behind x c.note_step-new.new.bytes) (sym c.places-n.ensures) ∙ c.note_step-new.ensures.behind ∙ ap (λ x. behind x s.bytes.now) c.places-n.ensures;
-      };
-    }
+    omega (arith, s, q.room, r.few, c.saturating_add-self.ensures)

@@ -1,0 +1,12 @@
+use Rattle.std.proofs.Common.{◌≡◌}
+use Rattle.sets.specs.Places.{member}
+use Rattle.dense_shelf.specs.Kept.{map_in, Untouched}
+use Rattle.dense_shelf.proofs.Sweeps.{RowsSwept}
+use Rattle.dense_shelf.proofs.rows.Rows.forget_rows.Given as goal
+
+abbrev pub invariant-loop-class : goal.invariant-loop-class
+invariant-loop-class l = record {
+  same : Untouched l.initial.self l.self;
+  used : l.self.used ≡ l.initial.self.used;
+  rows : RowsSwept l.initial.self.places (member l.places) (map_in l.initial.self) (map_in l.self) l.class l.gone;
+}
