@@ -1,10 +1,11 @@
-use Rattle.std.proofs.Common.{◌≡◌, ℕ, ◌+◌, ◌-◌, ◌*◌, ◌/◌, ◌%◌, ◌<◌, ◌≤◌, Bool, true, false, cond, ◌&&◌, ltb, ◌≢◌, ◌⊎◌, List, length, ◌++◌, take, drop, get_or, set, None, sym, refl, ap, ◌∙◌, subst, inl, inr, ⊎_elim, mul-le-mul_left, arith, get_or-set_other, get_or-set_same, drop-set-lt, rules}
+use Rattle.std.proofs.Common.{◌≡◌, ℕ, ◌+◌, ◌-◌, ◌*◌, ◌/◌, ◌%◌, ◌<◌, ◌≤◌, cond, ◌&&◌, ltb, ◌≢◌, ◌⊎◌, List, length, ◌++◌, take, drop, get_or, set, None, sym, refl, ap, ◌∙◌, subst, inl, inr, ⊎_elim, mul-le-mul_left, arith, get_or-set_other, get_or-set_same, drop-set-lt, rules}
 use mathlib.Core.Path.{fun_ext}
 use borrow.Rule.Slice.PartMut.{put_mid, post_of}
 use Rattle.std.proofs.lemmas.List.{get_or-append_right, get_or_append_left, set-append_right, set-append_left, length-take-le, get_or-take, take-append-drop, places}
 use Rattle.std.proofs.lemmas.Slice.{drop-put_mid}
 use Rattle.std.proofs.lemmas.Bool.{cases_eq, cases_lt, eq-eqb, lt-ltb, le-ltb}
 use Rattle.std.proofs.lemmas.Nat.{div-mul-add, mod-mul-add, mul-add-lt}
+use Rattle.std.proofs.Math.Bool.{and-false}
 use Rattle.memory.specs.Steps.{noted, nothing}
 use Rattle.memory.proofs.Sizes.{noted_other}
 use Rattle.dense_shelf.specs.Rows.{dense, target, wider, behind}
@@ -15,10 +16,6 @@ one_place n q d p c hq hp e = (
   sym (mod-mul-add d n q hq) ∙ ap (λ x. x % n) e ∙ mod-mul-add c n p hp,
   sym (div-mul-add d n q hq) ∙ ap (λ x. x / n) e ∙ div-mul-add c n p hp,
 )
-
-and_false : (b : Bool) → (b && false) ≡ false
-and_false true = refl
-and_false false = refl
 
 pub same_key : (q d p c : ℕ) → ((q ≡ p) × (d ≡ c)) ⊎ (q ≡ p → d ≡ c → ⊥)
 same_key q d p c =
@@ -97,7 +94,7 @@ dense_empty bs n =
     (λ q. fun_ext
     (λ d.
     let h : 0 ≤ d = omega arith in
-    ap (λ x. cond x (target n (get_or bs (d * n + q) 0)) None) (ap (λ x. ltb q n && x) (le-ltb d 0 h) ∙ and_false (ltb q n))))
+    ap (λ x. cond x (target n (get_or bs (d * n + q) 0)) None) (ap (λ x. ltb q n && x) (le-ltb d 0 h) ∙ and-false (ltb q n))))
 
 -- the bytes once those from a on are the row
 abbrev pub with_row : List ℕ → ℕ → ℕ → List ℕ → List ℕ

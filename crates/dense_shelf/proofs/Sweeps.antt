@@ -1,26 +1,16 @@
 use Rattle.std.proofs.Common.{◌≡◌, ℕ, ◌+◌, ◌*◌, ◌<◌, ◌≤◌, Bool, true, false, cond, ◌&&◌, ◌||◌, eqb, ltb, List, length, get_or, set, Some, None, Option, sym, refl, ap, ◌∙◌, subst, inl, inr, ⊎_elim, arith, get_or-set_other, get_or-set_same, below_more as at_more}
 use mathlib.Core.Path.{fun_ext}
-use Rattle.std.proofs.lemmas.Bool.{cases_eq, cases_lt, lt-ltb, le-ltb, eq-eqb, ne_eqb, ltb-true, and_parts, or_parts, or_left, both_ways}
+use Rattle.std.proofs.lemmas.Bool.{cases_eq, cases_lt, lt-ltb, le-ltb, eq-eqb, ne_eqb, ltb-true, and_parts, or_left}
+use Rattle.std.proofs.Math.Bool.{and-false, or-true}
 use Rattle.sets.specs.Members.{none, plus}
 use Rattle.memory.specs.Steps.{Map, without, unless}
+use Rattle.memory.proofs.Drops.{without_lacks, without_gone, without_stays}
 use Rattle.memory.proofs.Sizes.{size_put, size_le}
 use Rattle.dense_shelf.specs.Rows.{dense, target, behind}
 use Rattle.dense_shelf.specs.Sweep.{Swept, Clean}
 use Rattle.dense_shelf.specs.Kept.{map_in, Untouched}
 use Rattle.dense_shelf.specs.declared.rows.Rows.{Rows}
 use Rattle.dense_shelf.proofs.Cells.{same_key, dense_other, dense_here, dense_is, cell_low, behind_set}
-
-some_not : (t : ℕ) → None ≡ Some t → ⊥
-some_not t e = let z : ◌≡◌ {A = ℕ} 0 1 = cc in omega arith
-
-none_both : (b : Bool) → ◌≡◌ {A = Option ℕ} (cond b None None) None
-none_both true = refl
-none_both false = refl
-
-gone_both : (x y : Bool) (o : Option ℕ) → (x || y) ≡ true → ◌≡◌ {A = Option ℕ} (cond x None (cond y None o)) None
-gone_both true y o e = refl
-gone_both false true o e = refl
-gone_both false false o e = absurd (both_ways false refl e)
 
 pub swept_none : (n : ℕ) (m : ℕ → Bool) (f : Map) → Swept n m f f 0
 swept_none n m f = record { same = refl; count = omega arith; fewer = λ q d. inl refl }
@@ -46,7 +36,7 @@ step_less n m f g p c t hp hc was mine now other = record {
       (λ (e : (q ≡ p) × (d ≡ c)).
       subst (λ (q : ℕ). without g m q d ≡ without f m q d) (sym e.0)
       (subst (λ (d : ℕ). without g m p d ≡ without f m p d) (sym e.1)
-      (ap (λ x. cond (m p) None (unless m x)) now ∙ none_both (m p) ∙ sym (ap (λ x. cond (m p) None (unless m x)) was ∙ gone_both (m p) (m t) (Some t) mine))))
+      (without_lacks g m p c now ∙ sym (without_gone f m p c t was mine))))
       (λ (ne : q ≡ p → d ≡ c → ⊥). ap (λ x. cond (m q) None (unless m x)) (other q d ne))
       (same_key q d p c)));
   count = omega (arith, size_put n g f p c t hp hc now was other);
@@ -81,7 +71,7 @@ carry P bs bs' a a' e f x = subst (λ (y : List ℕ). P y a') (sym e) (subst (λ
 
 -- what is clean stays so
 pub clean_none : (m : ℕ → Bool) (f : Map) (q d : ℕ) → f q d ≡ None → Clean m f q d
-clean_none m f q d e = e ∙ sym (ap (λ x. cond (m q) None (unless m x)) e ∙ none_both (m q))
+clean_none m f q d e = e ∙ sym (without_lacks f m q d e)
 
 clean_fewer : (n : ℕ) (m : ℕ → Bool) (f g : Map) (a q d : ℕ) → Swept n m f g a → Clean m f q d → Clean m g q d
 clean_fewer n m f g a q d s k =
@@ -89,10 +79,6 @@ clean_fewer n m f g a q d s k =
     (λ (e : g q d ≡ f q d). e ∙ k ∙ ap (λ x. cond (m q) None (unless m x)) (sym e))
     (λ (e : g q d ≡ None). clean_none m g q d e)
     (s.fewer q d)
-
--- a step that is kept
-clean_step : (m : ℕ → Bool) (q b : ℕ) → (m q || m b) ≡ false → Some b ≡ cond (m q) None (unless m (Some b))
-clean_step m q b e = let k = or_parts (m q) (m b) e in rw (k.0, k.1)
 
 pub clean_cell : (bs : List ℕ) (n w : ℕ) (m : ℕ → Bool) (p c : ℕ) → p < n → c < w → (ltb (get_or bs (c * n + p) 0) n && (m p || m (get_or bs (c * n + p) 0))) ≡ false → Clean m (dense bs n w) p c
 clean_cell bs n w m p c hp hc e = by (get_or bs (c * n + p) 0) refl
@@ -104,7 +90,7 @@ clean_cell bs n w m p c hp hc e = by (get_or bs (c * n + p) 0) refl
         ⊎_elim
         (λ (h : b < n).
         let some : dense bs n w p c ≡ Some b = say ∙ ap (λ x. cond x (Some b) None) (lt-ltb b n h) in
-        some ∙ clean_step m p b (sym (ap (λ x. x && (m p || m b)) (lt-ltb b n h)) ∙ no) ∙ ap (λ x. cond (m p) None (unless m x)) (sym some))
+        some ∙ sym (without_stays (dense bs n w) m p c b some (sym (ap (λ x. x && (m p || m b)) (lt-ltb b n h)) ∙ no)))
         (λ (h : n ≤ b). clean_none m (dense bs n w) p c (say ∙ ap (λ x. cond x (Some b) None) (le-ltb b n h)))
         (cases_lt b n)
 
@@ -168,26 +154,18 @@ untouched_more a b c x y = record {
 }
 
 -- one place: a row in which the step from it is gone already
-or_true : (x : Bool) → (x || true) ≡ true
-or_true true = refl
-or_true false = refl
-
 only_else : (n p q b : ℕ) → (b ≡ p → ⊥) → (q ≡ p → n ≤ b) → (ltb b n && (plus 64 none p q || plus 64 none p b)) ≡ false
 only_else n p q b nb nq =
     ⊎_elim
     (λ (e : q ≡ p). rw (le-ltb b n (nq e)))
-    (λ (e : q ≡ p → ⊥). rw (ne_eqb q p e, ne_eqb b p nb, and_false (ltb p 64)) (and_false (ltb b n)))
+    (λ (e : q ≡ p → ⊥). rw (ne_eqb q p e, ne_eqb b p nb, and-false (ltb p 64)) (and-false (ltb b n)))
     (cases_eq q p)
-  where
-    and_false : (b : Bool) → (b && false) ≡ false
-    and_false true = refl
-    and_false false = refl
 
 only_then : (n p q b : ℕ) → p < n → n ≤ 64 → b ≡ p → (ltb b n && (plus 64 none p q || plus 64 none p b)) ≡ true
 only_then n p q b hp hn e =
     let hb : b < n = omega arith in
     let h64 : p < 64 = omega arith in
-    rw (lt-ltb b n hb, lt-ltb p 64 h64, eq-eqb b p e) (or_true (eqb q p || false))
+    rw (lt-ltb b n hb, lt-ltb p 64 h64, eq-eqb b p e) (or-true (eqb q p || false))
 
 abbrev pub OneInv : List ℕ → ℕ → ℕ → ℕ → ℕ → ℕ → List ℕ → ℕ → Type 0
 OneInv old n w p c q bs gone = RowInv old n w (plus 64 none p) c q bs gone × (n ≤ get_or bs (c * n + p) 0) × (gone ≤ q)

@@ -1,8 +1,9 @@
 -- The size of a map: what one step more or less does to it.
-use Rattle.std.proofs.Common.{◌≡◌, ℕ, zero, suc, ◌+◌, ◌*◌, ◌/◌, ◌%◌, ◌<◌, ◌≤◌, Bool, true, false, cond, ◌&&◌, eqb, ltb, Some, None, Option, sym, refl, ap, ◌∙◌, ⊎_elim, add-zero, arith}
+use Rattle.std.proofs.Common.{◌≡◌, ℕ, zero, suc, ◌+◌, ◌*◌, ◌/◌, ◌%◌, ◌<◌, ◌≤◌, true, false, eqb, ltb, Some, None, Option, is_none, sym, refl, ap, ◌∙◌, ⊎_elim, arith}
 use Rattle.std.proofs.lemmas.Bool.{cases_eq, cases_Bool, eq-eqb, ne_eqb, both_ways, and_parts, ltb-true, lt-ltb}
+use Rattle.std.proofs.Math.Bool.{and-false}
 use Rattle.std.proofs.lemmas.Nat.{div-mul-add, mod-mul-add, mul-add-lt, div-add-mod'}
-use Rattle.memory.specs.Steps.{Map, noted, size, tally, one, nothing, is_none, notable, after}
+use Rattle.memory.specs.Steps.{Map, noted, size, tally, one, nothing, notable}
 
 one_le : (o : Option ℕ) → one o ≤ 1
 one_le None = omega arith
@@ -59,14 +60,10 @@ size_put n f g p c t hp hc e e' same =
     (λ j (ne : j ≡ p * 256 + c → ⊥).
     same (j / 256) (j % 256) (λ (a : j / 256 ≡ p) (b : j % 256 ≡ c). ne (omega (arith, div-add-mod' j 256))))
 
-and_false : (b : Bool) → (b && false) ≡ false
-and_false true = refl
-and_false false = refl
-
 pub noted_other : (f : Map) (p c t q d : ℕ) → (q ≡ p → d ≡ c → ⊥) → f q d ≡ noted f p c t q d
 noted_other f p c t q d ne =
     ⊎_elim
-    (λ (a : q ≡ p). rw (ne_eqb d c (λ (b : d ≡ c). ne a b), and_false (eqb q p)))
+    (λ (a : q ≡ p). rw (ne_eqb d c (λ (b : d ≡ c). ne a b), and-false (eqb q p)))
     (λ (a : q ≡ p → ⊥). rw (ne_eqb q p a))
     (cases_eq q p)
 
@@ -97,9 +94,9 @@ pub size_nothing : (n : ℕ) → size n nothing ≡ 0
 unfolding size
 size_nothing n = tally_nothing (n * 256)
 
-is_none_lem : (o : Option ℕ) → is_none o ≡ true → o ≡ None
-is_none_lem None e = refl
-is_none_lem (Some t) e = absurd (both_ways false refl e)
+pub none_is : (o : Option ℕ) → is_none o ≡ true → o ≡ None
+none_is None e = refl
+none_is (Some t) e = absurd (both_ways false refl e)
 
 -- the same as `notable`, each condition by itself
 pub record Notable (n m : ℕ) (f : Map) (p c t : ℕ) : Type 0 where
@@ -116,7 +113,7 @@ notable_parts n m f p c t e =
     let b = and_parts (ltb t n) _ a.1 in
     let d = and_parts (ltb c 256) _ b.1 in
     let g = and_parts (is_none (f p c)) _ d.1 in
-    record { place = ltb-true p n a.0; target = ltb-true t n b.0; class = ltb-true c 256 d.0; lacks = is_none_lem (f p c) g.0; room = ltb-true (size n f) m g.1 }
+    record { place = ltb-true p n a.0; target = ltb-true t n b.0; class = ltb-true c 256 d.0; lacks = none_is (f p c) g.0; room = ltb-true (size n f) m g.1 }
 
 pub notable_from : (n m : ℕ) (f : Map) (p c t : ℕ) → Notable n m f p c t → notable n m f p c t ≡ true
 notable_from n m f p c t k = rw (lt-ltb p n k.place, lt-ltb t n k.target, lt-ltb c 256 k.class, k.lacks, lt-ltb (size n f) m k.room)
@@ -127,7 +124,3 @@ not_notable n m f p c t not =
     (λ (e : notable n m f p c t ≡ true). absurd (not (notable_parts n m f p c t e)))
     (λ (e : notable n m f p c t ≡ false). e)
     (cases_Bool (notable n m f p c t))
-
-pub size_after : (n m : ℕ) (f : Map) (p c t : ℕ) (r : Bool) → r ≡ notable n m f p c t → size n (after r f p c t) ≡ size n f + cond r 1 0
-size_after n m f p c t true e = let q = notable_parts n m f p c t (sym e) in size_noted n f p c t q.place q.class q.lacks
-size_after n m f p c t false e = sym (add-zero (size n f))

@@ -1,6 +1,6 @@
 -- A shelf's map from place and class to place, its size, and what noting and dropping make of it.
 -- Throughout, n is how many places a shelf has and m its capacity in steps.
-use Rattle.std.specs.Prelude.{◌≡◌, ℕ, zero, suc, ◌+◌, ◌*◌, ◌/◌, ◌%◌, ◌<◌, ◌≤◌, Bool, true, false, cond, ◌&&◌, Some, None, Option, ◌==◌, nat_lt}
+use Rattle.std.specs.Prelude.{◌≡◌, ℕ, zero, suc, ◌+◌, ◌*◌, ◌/◌, ◌%◌, ◌<◌, ◌≤◌, Bool, true, false, cond, ◌&&◌, Some, None, Option, ◌==◌, nat_lt, is_none}
 use Rattle.sets.specs.Members.{Members}
 
 -- the place that a step from a place leads to at a class, if there is such a step
@@ -36,10 +36,6 @@ tally g (suc k) = one (g k) + tally g k
 -- how many steps the map has from its first n places
 unfoldable pub size : ℕ → Map → ℕ
 size n f = tally (λ i. f (i / 256) (i % 256)) (n * 256)
-
-abbrev pub is_none : Option ℕ → Bool
-is_none None = true
-is_none (Some _) = false
 
 -- may the step from p at class c to t be noted: both places are the shelf's, the class is at most 255,
 -- place and class have no step yet, and there is room for one more

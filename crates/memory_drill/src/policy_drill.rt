@@ -8,7 +8,7 @@ use std::collections::BTreeSet;
 use std::fmt;
 
 // How many calls of each kind were made, and how many answers differed from the model's.
-#[derive(Clone, Copy)]
+#[derive(Clone, Copy, Default)]
 pub struct PolicyTally {
     seat: u32,
     drop: u32,
@@ -34,13 +34,7 @@ impl fmt::Display for PolicyTally {
 }
 
 fn same_places(set: PlaceSet, places: &BTreeSet<u8>) -> bool {
-    let mut same = true;
-    for p in 0..=255u8 {
-        if set.has(p) != places.contains(&p) {
-            same = false;
-        }
-    }
-    same
+    (0..=255u8).all(|p| set.has(p) == places.contains(&p))
 }
 
 fn few_places(heap: Global, chance: &mut Chance) -> Result<BTreeSet<u8>, AllocError> {
@@ -114,13 +108,7 @@ pub fn drill_policy<P: Policy + Drop>(
     seed: u64,
 ) -> Result<PolicyTally, AllocError> {
     let mut chance = Chance::new(seed);
-    let mut tally = PolicyTally {
-        seat: 0,
-        drop: 0,
-        touch: 0,
-        choose: 0,
-        differed: 0,
-    };
+    let mut tally = PolicyTally::default();
     for _ in 0..4000u32 {
         one_call(heap, &mut policy, &mut model, &mut chance, &mut tally)?;
     }

@@ -37,18 +37,11 @@ impl PolicyModel {
     }
 
     pub fn drop_places(&mut self, places: &BTreeSet<u8>) {
-        for p in places {
-            let _ = self.live.remove(p);
-        }
+        self.live.retain(|p| !places.contains(p));
     }
 
     pub fn touch(&mut self, places: &BTreeSet<u8>) -> Result<(), AllocError> {
-        for p in places {
-            if *p < 64 {
-                self.marks.insert(*p)?;
-            }
-        }
-        Ok(())
+        self.marks.extend(places.iter().copied().filter(|p| *p < 64))
     }
 
     pub fn choose(&mut self, held: Option<u8>) -> Result<BTreeSet<u8>, AllocError> {
@@ -59,13 +52,11 @@ impl PolicyModel {
     }
 
     fn others(&self, held: Option<u8>) -> Result<BTreeSet<u8>, AllocError> {
-        let mut others = BTreeSet::new(self.heap);
-        for p in &self.live {
-            if held != Some(*p) {
-                others.insert(*p)?;
-            }
-        }
-        Ok(others)
+        self.live
+            .iter()
+            .copied()
+            .filter(|p| held != Some(*p))
+            .collect(self.heap)
     }
 
     // The nearest unmarked place upward from the hand and round, once the marks on the way are cleared;

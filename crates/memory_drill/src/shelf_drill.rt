@@ -7,7 +7,7 @@ use std::collections::BTreeSet;
 use std::fmt;
 
 // How many calls of each kind were made, and how many answers differed from the model's.
-#[derive(Clone, Copy)]
+#[derive(Clone, Copy, Default)]
 pub struct ShelfTally {
     know: u32,
     note: u32,
@@ -87,21 +87,13 @@ fn some_places(heap: Global, many: u8, chance: &mut Chance) -> Result<BTreeSet<u
     }
     if chance.rarely(16) {
         let held = chance.place(many);
-        for p in 0..64u8 {
-            if p != held {
-                places.insert(p)?;
-            }
-        }
+        places.extend((0..64u8).filter(|p| *p != held))?;
     }
     Ok(places)
 }
 
 pub fn as_place_set(places: &BTreeSet<u8>) -> PlaceSet {
-    let mut set = PlaceSet::empty();
-    for p in places {
-        set = set.with(*p);
-    }
-    set
+    places.iter().fold(PlaceSet::empty(), |set, p| set.with(*p))
 }
 
 fn drop_some<S: Shelf>(
@@ -114,7 +106,7 @@ fn drop_some<S: Shelf>(
     let places = some_places(heap, model.places(), chance)?;
     tally.drop = tally.drop.saturating_add(1);
     let gone = shelf.drop_places(as_place_set(&places));
-    tally.expect(gone == model.drop_places(&places)?);
+    tally.expect(gone == model.drop_places(&places));
     tally.expect(shelf.count() == model.count());
     Ok(())
 }
@@ -163,16 +155,7 @@ pub fn drill_shelf<S: Shelf + Drop>(
     seed: u64,
 ) -> Result<ShelfTally, AllocError> {
     let mut chance = Chance::new(seed);
-    let mut tally = ShelfTally {
-        know: 0,
-        note: 0,
-        noted: 0,
-        full: 0,
-        drop: 0,
-        empty: 0,
-        whole: 0,
-        differed: 0,
-    };
+    let mut tally = ShelfTally::default();
     empty(&mut shelf, &mut model, &mut tally);
     for i in 0..8000u32 {
         one_call(heap, &mut shelf, &mut model, &mut chance, &mut tally)?;

@@ -52,16 +52,11 @@ impl ShelfModel {
         Ok(may)
     }
 
-    pub fn drop_places(&mut self, places: &BTreeSet<u8>) -> Result<usize, AllocError> {
+    pub fn drop_places(&mut self, places: &BTreeSet<u8>) -> usize {
         let before = self.steps.len();
-        let mut kept = BTreeMap::new(self.heap);
-        for (key, target) in &self.steps {
-            if !places.contains(&key.0) && !places.contains(target) {
-                kept.insert(*key, *target)?;
-            }
-        }
-        self.steps = kept;
-        Ok(before.saturating_sub(self.steps.len()))
+        self.steps
+            .retain(|key, target| !places.contains(&key.0) && !places.contains(target));
+        before.saturating_sub(self.steps.len())
     }
 
     pub fn empty(&mut self) {

@@ -3,22 +3,17 @@ use Rattle.std.proofs.Common.{◌≡◌, ℕ, Bool, true, false, cond, not, ◌&
 use mathlib.Core.Path.{fun_ext}
 use Rattle.std.specs.List.{fold, find}
 use Rattle.std.specs.Option.{option_map, option_or}
-use Rattle.std.proofs.lemmas.Bool.{and_from, both_ways, cases_Bool, and_parts, or_parts, eqb-true, lt-ltb}
+use Rattle.std.proofs.lemmas.Bool.{and_from, cases_Bool, and_parts, eqb-true, lt-ltb}
 use Rattle.std.proofs.lemmas.List.Folds.{find-append}
 use Rattle.std.proofs.lemmas.List.{reverse-append}
-use Rattle.memory.specs.Steps.{Map, without, unless, nothing}
+use Rattle.sets.specs.Members.{Members}
+use Rattle.memory.specs.Steps.{Map, without, nothing}
+use Rattle.memory.proofs.Drops.{without_lacks, without_gone, without_stays}
 use Rattle.pair_shelf.specs.declared.step.Step.{Step}
 use Rattle.pair_shelf.specs.Pairs.{pairs, distinct, new, new_in_turn, with_step}
 use Rattle.pair_shelf.specs.Bounded.{New, first_new}
 
 -- one step more
-fold_push : (f : Map) (xs : List Step) (s : Step) → fold with_step f (xs ++ s ∷ []) ≡ with_step (fold with_step f xs) s
-fold_push f [] s = refl
-fold_push f (x ∷ xs) s = fold_push (with_step f x) xs s
-
-pub pairs_push : (xs : List Step) (s : Step) → pairs (xs ++ s ∷ []) ≡ with_step (pairs xs) s
-pairs_push xs s = fold_push nothing xs s
-
 new_from : (f : Map) (s : Step) → New f s → new f s ≡ true
 new_from f s k = rw (lt-ltb s.place 64 k.from, lt-ltb s.target 64 k.to, lt-ltb s.class 256 k.class, k.lacks)
 
@@ -60,30 +55,20 @@ pairs_look_up xs p c = mapped (find (keyed p c) (reverse xs)) ∙ fold_look_up n
     mapped (Some s) = refl
 
 -- dropping
-none_both : (b : Bool) → ◌≡◌ {A = Option ℕ} (cond b None None) None
-none_both true = refl
-none_both false = refl
-
-kept_step : (f : Map) (m : ℕ → Bool) (s : Step) → (m s.place || m s.target) ≡ false → with_step (without f m) s ≡ without (with_step f s) m
+kept_step : (f : Map) (m : Members) (s : Step) → (m s.place || m s.target) ≡ false → with_step (without f m) s ≡ without (with_step f s) m
 kept_step f m s a =
-    let k = or_parts (m s.place) (m s.target) a in
     fun_ext
     (λ q. fun_ext
     (λ d.
     ⊎_elim
     (λ (h : (eqb q s.place && eqb d s.class) ≡ true).
     let e : q ≡ s.place = eqb-true q s.place (and_parts (eqb q s.place) (eqb d s.class) h).0 in
-    let mq : m q ≡ false = ap m e ∙ k.0 in
-    rw (h, mq, k.1))
+    ap (λ b. cond b (Some s.target) (without f m q d)) h
+    ∙ sym (without_stays (with_step f s) m q d s.target (ap (λ b. cond b (Some s.target) (f q d)) h) (ap (λ x. m x || m s.target) e ∙ a)))
     (λ (h : (eqb q s.place && eqb d s.class) ≡ false). rw h)
     (cases_Bool (eqb q s.place && eqb d s.class))))
 
-gone_both : (x y : Bool) (o : Option ℕ) → (x || y) ≡ true → ◌≡◌ {A = Option ℕ} (cond x None (cond y None o)) None
-gone_both true y o e = refl
-gone_both false true o e = refl
-gone_both false false o e = absurd (both_ways false refl e)
-
-gone_step : (f : Map) (m : ℕ → Bool) (s : Step) → (m s.place || m s.target) ≡ true → f s.place s.class ≡ None → without f m ≡ without (with_step f s) m
+gone_step : (f : Map) (m : Members) (s : Step) → (m s.place || m s.target) ≡ true → f s.place s.class ≡ None → without f m ≡ without (with_step f s) m
 gone_step f m s a lacks =
     fun_ext
     (λ q. fun_ext
@@ -92,31 +77,29 @@ gone_step f m s a lacks =
     (λ (h : (eqb q s.place && eqb d s.class) ≡ true).
     let k = and_parts (eqb q s.place) (eqb d s.class) h in
     let e : q ≡ s.place = eqb-true q s.place k.0 in
-    let g : d ≡ s.class = eqb-true d s.class k.1 in
-    let o : f q d ≡ None = ap (λ x. f x d) e ∙ ap (f s.place) g ∙ lacks in
-    ap (λ x. cond (m q) None (unless m x)) o ∙ none_both (m q)
-    ∙ sym (ap (λ x. cond (m q) None (unless m (cond x (Some s.target) (f q d)))) h
-    ∙ gone_both (m q) (m s.target) (Some s.target) (ap (λ x. m x || m s.target) e ∙ a)))
+    let o : f q d ≡ None = ap (λ x. f x d) e ∙ ap (f s.place) (eqb-true d s.class k.1) ∙ lacks in
+    without_lacks f m q d o
+    ∙ sym (without_gone (with_step f s) m q d s.target (ap (λ b. cond b (Some s.target) (f q d)) h) (ap (λ x. m x || m s.target) e ∙ a)))
     (λ (h : (eqb q s.place && eqb d s.class) ≡ false). rw h)
     (cases_Bool (eqb q s.place && eqb d s.class))))
 
 -- the steps that are neither from nor to the places
-abbrev pub kept : (ℕ → Bool) → List Step → List Step
+abbrev pub kept : Members → List Step → List Step
 kept m xs = filter (λ s. not (m s.place || m s.target)) xs
 
-new_without : (f : Map) (m : ℕ → Bool) (s : Step) → New f s → New (without f m) s
+new_without : (f : Map) (m : Members) (s : Step) → New f s → New (without f m) s
 new_without f m s k = record {
   from = k.from;
   to = k.to;
   class = k.class;
-  lacks = ap (λ x. cond (m s.place) None (unless m x)) k.lacks ∙ none_both (m s.place);
+  lacks = without_lacks f m s.place s.class k.lacks;
 }
 
-record Keeps (f : Map) (m : ℕ → Bool) (xs ys : List Step) : Type 0 where
+record Keeps (f : Map) (m : Members) (xs ys : List Step) : Type 0 where
   pub map : fold with_step (without f m) ys ≡ without (fold with_step f xs) m
   pub fine : new_in_turn (without f m) ys ≡ true
 
-keeps : (f : Map) (m : ℕ → Bool) (xs : List Step) → new_in_turn f xs ≡ true → Keeps f m xs (kept m xs)
+keeps : (f : Map) (m : Members) (xs : List Step) → new_in_turn f xs ≡ true → Keeps f m xs (kept m xs)
 keeps f m [] e = record { map = refl; fine = refl }
 keeps f m (s ∷ xs) e =
     let a = first_new f s xs e in
@@ -133,11 +116,11 @@ keeps f m (s ∷ xs) e =
     }))
     (cases_Bool (m s.place || m s.target))
 
-nothing_without : (m : ℕ → Bool) → without nothing m ≡ nothing
-nothing_without m = fun_ext (λ q. fun_ext (λ d. none_both (m q)))
+nothing_without : (m : Members) → without nothing m ≡ nothing
+nothing_without m = fun_ext (λ q. fun_ext (λ d. without_lacks nothing m q d refl))
 
-pub pairs_kept : (m : ℕ → Bool) (xs : List Step) → distinct xs ≡ true → pairs (kept m xs) ≡ without (pairs xs) m
+pub pairs_kept : (m : Members) (xs : List Step) → distinct xs ≡ true → pairs (kept m xs) ≡ without (pairs xs) m
 pairs_kept m xs e = ap (λ f. fold with_step f (kept m xs)) (sym (nothing_without m)) ∙ (keeps nothing m xs e).map
 
-pub distinct_kept : (m : ℕ → Bool) (xs : List Step) → distinct xs ≡ true → distinct (kept m xs) ≡ true
+pub distinct_kept : (m : Members) (xs : List Step) → distinct xs ≡ true → distinct (kept m xs) ≡ true
 distinct_kept m xs e = ap (λ f. new_in_turn f (kept m xs)) (sym (nothing_without m)) ∙ (keeps nothing m xs e).fine

@@ -1,16 +1,12 @@
 -- The pairs keep a shelf's bounds. The proof stands here and not among the proofs, because the ghost member `bounds` cites it.
-use Rattle.std.specs.Prelude.{◌≡◌, ℕ, ◌+◌, ◌<◌, ◌≤◌, true, false, cond, ◌&&◌, List, [], ◌∷◌, length, Some, None, Option, ◌==◌, nat_lt, refl}
+use Rattle.std.specs.Prelude.{◌≡◌, ◌+◌, ◌<◌, ◌≤◌, true, false, cond, ◌&&◌, List, [], ◌∷◌, length, Some, None, ◌==◌, nat_lt}
 use Rattle.std.specs.List.{fold}
 use Rattle.std.proofs.Common.{sym, ap, ◌∙◌, ⊎_elim, arith}
-use Rattle.std.proofs.lemmas.Bool.{and_parts, ltb-true, eqb-true, both_ways, cases_Bool}
-use Rattle.memory.specs.Steps.{Map, size, Bounds, Within, is_none, nothing}
-use Rattle.memory.proofs.Sizes.{size_noted, size_nothing}
+use Rattle.std.proofs.lemmas.Bool.{and_parts, ltb-true, eqb-true, cases_Bool}
+use Rattle.memory.specs.Steps.{Map, size, Bounds, Within, nothing}
+use Rattle.memory.proofs.Sizes.{size_noted, size_nothing, none_is}
 use Rattle.pair_shelf.specs.declared.step.Step.{Step}
 use Rattle.pair_shelf.specs.Pairs.{pairs, distinct, new, new_in_turn, with_step}
-
-is_none_lem : (o : Option ℕ) → is_none o ≡ true → o ≡ None
-is_none_lem None e = refl
-is_none_lem (Some t) e = absurd (both_ways false refl e)
 
 pub record New (f : Map) (s : Step) : Type 0 where
   pub from : s.place < 64
@@ -23,7 +19,7 @@ new_parts f s e =
     let a = and_parts (nat_lt s.place 64) _ e in
     let b = and_parts (nat_lt s.target 64) _ a.1 in
     let d = and_parts (nat_lt s.class 256) _ b.1 in
-    record { from = ltb-true s.place 64 a.0; to = ltb-true s.target 64 b.0; class = ltb-true s.class 256 d.0; lacks = is_none_lem (f s.place s.class) d.1 }
+    record { from = ltb-true s.place 64 a.0; to = ltb-true s.target 64 b.0; class = ltb-true s.class 256 d.0; lacks = none_is (f s.place s.class) d.1 }
 
 -- the first step is new, and the others are on top of it
 pub first_new : (f : Map) (s : Step) (xs : List Step) → new_in_turn f (s ∷ xs) ≡ true → New f s × (new_in_turn (with_step f s) xs ≡ true)

@@ -1,7 +1,7 @@
 -- A table of pairs: the map that its steps say, and that no two of them are from one place at one class.
-use Rattle.std.specs.Prelude.{Bool, true, ◌&&◌, List, [], ◌∷◌, nat_lt}
+use Rattle.std.specs.Prelude.{Bool, true, ◌&&◌, List, [], ◌∷◌, nat_lt, is_none}
 use Rattle.std.specs.List.{fold}
-use Rattle.memory.specs.Steps.{Map, noted, is_none, nothing}
+use Rattle.memory.specs.Steps.{Map, noted, nothing}
 use Rattle.pair_shelf.specs.declared.step.Step.{Step}
 
 abbrev pub with_step : Map → Step → Map

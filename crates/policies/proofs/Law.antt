@@ -3,11 +3,12 @@ use Rattle.std.proofs.Common.{◌≡◌, ℕ, zero, suc, ◌+◌, ◌-◌, ◌<�
 use mathlib.Core.Path.{fun_ext}
 use Rattle.std.proofs.lemmas.Bool.{cases_Bool, cases_eq, cases_lt, lt-ltb, le-ltb, eq-eqb, ne_eqb, both_ways, and_parts}
 use Rattle.std.proofs.lemmas.Bool.Decides.{nat_tests}
+use Rattle.std.proofs.lemmas.Option.{none-some}
 use Rattle.sets.specs.Members.{Members, except, less}
 use Rattle.memory.specs.Live.{May}
 use Rattle.policies.specs.Round.{next, others, Way, way, going, round, only}
 use Rattle.policies.specs.Chosen.{ahead, cleared, NearestUnmarked, NearestOfAll, Chosen}
-use Rattle.policies.proofs.Ways.{past, cleared as mark_cleared, stopped, ended, some_not, others_may, may_others, only_is, only_has}
+use Rattle.policies.proofs.Ways.{past, cleared as mark_cleared, stopped, ended, others_may, may_others, only_is, only_has}
 
 -- one place further
 ahead_here : (at : ℕ) → ahead at at ≡ 0
@@ -219,7 +220,7 @@ add_suc_left : (a b : ℕ) → suc a + b ≡ suc (a + b)
 add_suc_left a b = omega arith
 
 found_first : (may : Members) (a b : ℕ) (marks : Members) (at p : ℕ) → (going may a marks at).found ≡ Some p → going may (a + b) marks at ≡ going may a marks at
-found_first may zero b marks at p e = absurd (some_not p (sym (ap (λ w. w.found) (ended may marks at)) ∙ e))
+found_first may zero b marks at p e = absurd (none-some p (sym (ap (λ w. w.found) (ended may marks at)) ∙ e))
 found_first may (suc a) b marks at p e =
     ap (λ n. going may n marks at) (add_suc_left a b)
     ∙ ⊎_elim
@@ -250,7 +251,7 @@ none_first may (suc a) b marks at e =
     mark_cleared may (a + b) marks at m q
     ∙ none_first may a b (except marks at) (next at) (sym (ap (λ w. w.found) (mark_cleared may a marks at m q)) ∙ e)
     ∙ ap (λ w. going may b w.marks (far a (next at))) (sym (mark_cleared may a marks at m q)))
-    (λ (q : marks at ≡ false). absurd (some_not at (sym e ∙ ap (λ w. w.found) (stopped may a marks at m q))))
+    (λ (q : marks at ≡ false). absurd (none-some at (sym e ∙ ap (λ w. w.found) (stopped may a marks at m q))))
     (cases_Bool (marks at)))
     (λ (m : may at ≡ false).
     past may (a + b) marks at m

@@ -1,6 +1,7 @@
 use Rattle.std.proofs.Common.{◌≡◌, ℕ, suc, ◌+◌, ◌-◌, ◌<◌, ◌≤◌, true, false, not, eqb, Some, None, Option, sym, refl, ap, ◌∙◌, arith}
 use Rattle.std.proofs.lemmas.Bool.{eq-eqb, ne_eqb, both_ways, and_parts, and_from, not-true, not_from_false}
 use Rattle.std.proofs.lemmas.Bool.Decides.{nat_tests}
+use Rattle.std.proofs.lemmas.Option.{none-some}
 use Rattle.sets.specs.Members.{Members, except}
 use Rattle.memory.specs.Live.{May}
 use Rattle.policies.specs.Round.{next, others, way, going, only}
@@ -37,16 +38,13 @@ stopped_more may n marks at h e m = ap (λ k. going may k marks at) (left_more n
 pub ended_more : (may : Members) (n : ℕ) (marks : Members) (at : ℕ) → 128 ≤ n → going may (128 - n) marks at ≡ way None marks
 ended_more may n marks at h = (let e : 128 - n ≡ 0 = omega arith in ap (λ k. going may k marks at) e) ∙ ended may marks at
 
-pub some_not : (t : ℕ) → None ≡ Some t → ⊥
-some_not t e = let z : ◌≡◌ {A = ℕ} 0 1 = cc in omega arith
-
 not_in : (f : Members) (p k : ℕ) → except f p k ≡ true → (f k ≡ true) × (p ≡ k → ⊥)
 not_in f p k h =
     let a = and_parts (f k) (not (eqb k p)) h in
     (a.0, λ (e : p ≡ k). both_ways (eqb k p) (not-true (eqb k p) a.1) (eq-eqb k p (sym e)))
 
 pub others_may : (f : Members) (held : Option ℕ) (k : ℕ) → others f held k ≡ true → May f held k
-others_may f None k h = (h, λ (e : None ≡ Some k). some_not k e)
+others_may f None k h = (h, λ (e : None ≡ Some k). none-some k e)
 others_may f (Some p) k h = let a = not_in f p k h in (a.0, λ (e : Some p ≡ Some k). a.1 (cc))
 
 pub may_others : (f : Members) (held : Option ℕ) (k : ℕ) → May f held k → others f held k ≡ true

@@ -1,4 +1,4 @@
-use Rattle.std.proofs.Common.{ℕ, ◌<◌, sym, ◌∙◌, arith}
+use Rattle.std.proofs.Common.{◌<◌, sym, ◌∙◌, arith}
 use Rattle.sets.specs.Places.{member}
 use Rattle.policies.proofs.Ways.{past_more, cleared_more, stopped_more, ended_more}
 use Rattle.policies.proofs.clock.go_round.Goals as goal
