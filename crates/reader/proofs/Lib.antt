@@ -1,4 +1,3 @@
-pub mod Tables
 pub mod Counts
 pub mod Rows
 pub mod Taking

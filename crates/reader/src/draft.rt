@@ -2,6 +2,7 @@
 ghost use Rattle.std.specs.Prelude.{◌≡◌, ◌≤◌, length};
 
 use super::limits::{MOST_ATOMS, MOST_CODES};
+use arrayvec::ArrayVec;
 use pattern::Code;
 
 mod contents;
@@ -10,10 +11,9 @@ mod reading;
 
 #[derive(Drop)]
 pub struct Draft<T> {
-    tests: [T; MOST_ATOMS],
-    atoms: usize,
+    tests: ArrayVec<T, MOST_ATOMS>,
     codes: [Code; MOST_CODES],
     used: usize,
-    ghost counts: { (atoms ≤ 63) × (used ≤ 1023) },
-    ghost tables: { (length tests ≡ 63) × (length codes ≡ 1023) },
+    ghost count: { used ≤ 1023 },
+    ghost table: { length codes ≡ 1023 },
 }

@@ -2,11 +2,9 @@
 #![tactic(auto)]
 
 pub use self::draft::Draft;
-pub use self::notations::{read_bytes, read_events};
 pub use self::trials::trials_stand;
 
 mod draft;
 mod limits;
-mod notations;
 mod surplus;
 mod trials;

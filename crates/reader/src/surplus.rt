@@ -9,17 +9,9 @@ use items::{Item, Placed};
 pub fn surplus_atom(items: &[Placed]) -> Option<usize>
     ensures { result ≡ surplus 63 items.now }
 {
-    let mut free = MOST_ATOMS;
-    for placed in items {
-        match placed.item {
-            Item::Sign(_) => {}
-            Item::Atom => {
-                if free == 0 {
-                    return Some(placed.place);
-                }
-                free -= 1;
-            }
-        }
-    }
-    None
+    items
+        .iter()
+        .filter(|placed| matches!(placed.item, Item::Atom))
+        .nth(MOST_ATOMS)
+        .map(|placed| placed.place)
 }

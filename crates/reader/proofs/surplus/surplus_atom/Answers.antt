@@ -1,25 +1,17 @@
-use Rattle.std.proofs.Common.{◌+◌, drop, sym, ap, ◌∙◌, arith}
-use Rattle.reader.specs.Rows.{surplus}
-use Rattle.reader.proofs.Counts.{at_sign, at_atom, at_surplus, at_end}
+use Rattle.std.proofs.Common.{◌≡◌, sym, ap, ◌∙◌, rules, tests}
+use Rattle.std.specs.Option.{option_map}
+use Rattle.std.specs.List.{slice_get}
+use Rattle.std.proofs.lemmas.Iterator.{YieldsList-from_slice}
+use Rattle.std.proofs.lemmas.Iterator.Consumers.{nth_from_yields_List, YieldsList-from_filter, YieldsList-at}
+use Rattle.reader.specs.Rows.{atom, surplus}
+use Rattle.reader.proofs.Counts.{atoms_in, surplus_nth}
 use Rattle.reader.proofs.surplus.surplus_atom.Goals as goal
-use Rattle.reader.proofs.surplus.surplus_atom.Goals.{in-Sign, in-Atom+else-free-eq0}
-
-pub returns-then-free-eq0 : goal.returns-then-free-eq0
-returns-then-free-eq0 c =
-    sym (c.loop-placed.invariant ∙ at_surplus c.args.items.now c.loop-placed.placed-index c.loop-placed.free c.loop-placed-test.true c.in-Atom.is c.if-free-eq0.true)
-
-pub loop-placed-preserved : goal.loop-placed-preserved
-loop-placed-preserved c =
-    let xs = c.args.items.now in
-    let i = c.loop-placed.placed-index in
-    let rest = drop (i + 1) xs in
-    elim c.match-placed.branch [
-      | in-Sign w ↦ c.loop-placed.invariant ∙ at_sign xs i c.loop-placed.free c.loop-placed-test.true _ w.in-Sign.is ∙ ap (λ n. surplus n rest) (sym w.free-is)
-      | in-Atom+else-free-eq0 w ↦
-          c.loop-placed.invariant
-          ∙ at_atom xs i c.loop-placed.free c.loop-placed-test.true w.in-Atom.is (omega (arith, w.if-free-eq0.false))
-          ∙ ap (λ n. surplus n rest) (sym w.free-is)
-    ]
 
 pub returns : goal.returns
-returns c = sym (c.loop-placed.invariant ∙ at_end c.args.items.now c.loop-placed.placed-index c.loop-placed.free c.loop-placed-test.false)
+returns c =
+    let xs = c.args.items.now in
+    let found : option_map (λ x. x.now) c.nth.result ≡ slice_get (atoms_in xs) 63 =
+        nth_from_yields_List c.nth.result _ 63 c.nth.ensures.ran
+        (YieldsList-from_filter _ (λ x. atom x.item) (YieldsList-at c.filter.ensures.source (YieldsList-from_slice xs cc)) c.filter.ensures.closure (λ x b q k. search (rules, tests))) in
+    let place : c.map.result ≡ option_map (λ x. x.place) (option_map (λ x. x.now) c.nth.result) = search (rules, tests) in
+    place ∙ ap (option_map (λ x. x.place)) found ∙ sym (surplus_nth 63 xs)
