@@ -1,5 +1,5 @@
 // The draft of a pattern: the tests of its atoms, in text order, and its codes in postfix order.
-ghost use Rattle.std.specs.Prelude.{◌≡◌, ◌≤◌, length};
+ghost use Rattle.std.specs.Prelude.{◌≤◌};
 
 use super::limits::{MOST_ATOMS, MOST_CODES};
 use arrayvec::ArrayVec;
@@ -15,5 +15,4 @@ pub struct Draft<T> {
     codes: [Code; MOST_CODES],
     used: usize,
     ghost count: { used ≤ 1023 },
-    ghost table: { length codes ≡ 1023 },
 }

@@ -29,6 +29,14 @@ impl<T: Copy + Default> Draft<T> {
     }
 }
 
+impl<T: Copy + Default> Default for Draft<T> {
+    ghost is_default = { λ d. (tests_of d ≡ []) × (codes_of d ≡ []) };
+
+    fn default() -> Draft<T> {
+        Draft::new()
+    }
+}
+
 impl<T: Copy> Draft<T> {
     // How many atoms the pattern has.
     pub fn atoms(&self) -> usize
