@@ -2,7 +2,7 @@
 // A search looks at classes alone, and is right over every alphabet by the law below.
 #![tactic(auto)]
 
-ghost use Rattle.std.specs.Prelude.{◌≡◌, ℕ, ◌<◌, ◌≤◌, Bool, true, false, ◌⊎◌};
+ghost use Rattle.std.specs.Prelude.{◌≡◌, ℕ, ◌<◌, ◌≤◌, Bool, true, false, ◌⊎◌, List, take};
 ghost use Rattle.sets.specs.Members.{shared, below};
 ghost use Rattle.sets.specs.Positions.{holds, width};
 
@@ -64,6 +64,18 @@ pub trait Alphabet {
     ghost untested: { (a : Self) (c k : ℕ) → (k ≡ 0) ⊎ (tests a < k) → accepts a c k ≡ false };
 
     ghost unclassed: { (a : Self) (c k : ℕ) → classes a ≤ c → accepts a c k ≡ false };
+}
+
+// An alphabet that tests make.
+pub trait FromTests: Alphabet {
+    type Test: Copy;
+
+    // The tests that count, in the order of their numbers.
+    ghost own: { Self → List Self.Test };
+
+    // The alphabet of the tests, of which the first 63 count.
+    fn of(tests: &[Self::Test]) -> Self
+        ensures { own result ≡ take 63 tests.now };
 }
 
 // Whether a symbol passes a test, asked of its class alone.

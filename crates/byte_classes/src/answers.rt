@@ -9,26 +9,9 @@ ghost use Rattle.symbols.specs.Tests.{passes_byte};
 ghost use Rattle.alphabet.proofs.Asking.{asked_none};
 
 use crate::{ByteClasses, table};
-use alphabet::{Alphabet, keep};
+use alphabet::{Alphabet, FromTests, keep};
 use sets::PositionSet;
 use symbols::ByteTest;
-
-impl ByteClasses {
-    // The classes under the tests, of which the first 63 count.
-    pub fn of(tests: &[ByteTest]) -> ByteClasses
-        ensures tests { byte_tests result ≡ take 63 tests.now }
-        ensures law { Classified (byte_tests result) }
-    {
-        let mut own = [ByteTest { bits: [0; 32] }; 63];
-        let used = keep(&mut own, tests);
-        let table = table::tabulate(&own[..used]);
-        ByteClasses {
-            tests: own,
-            used,
-            table,
-        }
-    }
-}
 
 impl Alphabet for ByteClasses {
     type Symbol = u8;
@@ -74,6 +57,26 @@ impl Alphabet for ByteClasses {
             self.table.passing[class as usize]
         } else {
             PositionSet::empty()
+        }
+    }
+}
+
+impl FromTests for ByteClasses {
+    type Test = ByteTest;
+
+    ghost own = { λ a. byte_tests a };
+
+    fn of(tests: &[ByteTest]) -> ByteClasses
+        ensures tests { byte_tests result ≡ take 63 tests.now }
+        ensures law { Classified (byte_tests result) }
+    {
+        let mut own = [ByteTest { bits: [0; 32] }; 63];
+        let used = keep(&mut own, tests);
+        let table = table::tabulate(&own[..used]);
+        ByteClasses {
+            tests: own,
+            used,
+            table,
         }
     }
 }

@@ -7,30 +7,9 @@ ghost use Rattle.event_classes.specs.Eventwise.{events_few, few_taken, code_fits
 ghost use Rattle.alphabet.proofs.Asking.{asked_none};
 
 use crate::{EventCuts, table};
-use alphabet::{Alphabet, keep};
+use alphabet::{Alphabet, FromTests, keep};
 use sets::PositionSet;
 use symbols::{Event, EventTest};
-
-impl EventCuts {
-    // The classes under the tests, of which the first 63 count.
-    pub fn of(tests: &[EventTest]) -> EventCuts
-        ensures tests { event_tests result ≡ take 63 tests.now }
-        ensures law { Cut (event_tests result) }
-    {
-        let mut own = [EventTest {
-            low: 0,
-            high: 0,
-            inverted: false,
-        }; 63];
-        let used = keep(&mut own, tests);
-        let table = table::tabulate(&own[..used]);
-        EventCuts {
-            tests: own,
-            used,
-            table,
-        }
-    }
-}
 
 impl Alphabet for EventCuts {
     type Symbol = Event;
@@ -80,6 +59,30 @@ impl Alphabet for EventCuts {
             self.table.passing[class as usize]
         } else {
             PositionSet::empty()
+        }
+    }
+}
+
+impl FromTests for EventCuts {
+    type Test = EventTest;
+
+    ghost own = { λ a. event_tests a };
+
+    fn of(tests: &[EventTest]) -> EventCuts
+        ensures tests { event_tests result ≡ take 63 tests.now }
+        ensures law { Cut (event_tests result) }
+    {
+        let mut own = [EventTest {
+            low: 0,
+            high: 0,
+            inverted: false,
+        }; 63];
+        let used = keep(&mut own, tests);
+        let table = table::tabulate(&own[..used]);
+        EventCuts {
+            tests: own,
+            used,
+            table,
         }
     }
 }

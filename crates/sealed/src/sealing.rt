@@ -9,7 +9,7 @@ ghost use Rattle.reader.specs.Drafts.{tests_of, codes_of as draft_codes};
 ghost use Rattle.sealed.specs.Plans.{codes_of, tree_of, positions_of, sealable, by_class, SealedOf};
 
 use crate::plan::Plan;
-use alphabet::Alphabet;
+use alphabet::{Alphabet, FromTests};
 use byte_classes::ByteClasses;
 use event_classes::EventCuts;
 use pattern::Code;
