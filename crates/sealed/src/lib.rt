@@ -8,5 +8,4 @@ mod rows;
 mod sealing;
 mod tables;
 
-pub use plan::Plan;
-pub use sealing::{Sealed, seal_bytes, seal_events};
+pub use sealing::{Sealed, seal};

@@ -14,6 +14,17 @@ pub struct Part {
     pub last: PositionSet,
 }
 
+// A part without words, which no code makes.
+impl Default for Part {
+    fn default() -> Part {
+        Part {
+            nullable: false,
+            first: PositionSet::empty(),
+            last: PositionSet::empty(),
+        }
+    }
+}
+
 impl Part {
     pub fn atom(position: u8) -> Part
         requires { position < 64 }
@@ -52,8 +63,7 @@ impl Part {
     {
         Part {
             nullable: true,
-            first: self.first,
-            last: self.last,
+            ..self
         }
     }
 }

@@ -22,11 +22,9 @@ pub fn link_rows(rows: &mut [PositionSet; 64], last: PositionSet, first: Positio
 pub fn row(rows: &[PositionSet; 64], p: u8) -> PositionSet
     ensures { holds result ≡ entry rows.now p }
 {
-    if p < 64 {
-        rows[p as usize]
-    } else {
-        PositionSet::empty()
-    }
+    rows.get(usize::from(p))
+        .copied()
+        .unwrap_or(PositionSet::empty())
 }
 
 // The rows that have q.

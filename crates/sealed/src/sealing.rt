@@ -3,19 +3,14 @@ ghost use Rattle.std.specs.Prelude.{◌≡◌, true};
 ghost use Rattle.sets.specs.Positions.{holds, width};
 ghost use Rattle.theory.specs.Masks.{ahead_set, back_set, common};
 ghost use Rattle.sealed.specs.Tables.{following};
-ghost use Rattle.byte_classes.specs.Own.{byte_tests};
-ghost use Rattle.event_classes.specs.Own.{event_tests};
 ghost use Rattle.reader.specs.Drafts.{tests_of, codes_of as draft_codes};
 ghost use Rattle.sealed.specs.Plans.{codes_of, tree_of, positions_of, sealable, by_class, SealedOf};
 
 use crate::plan::Plan;
 use alphabet::{Alphabet, FromTests};
-use byte_classes::ByteClasses;
-use event_classes::EventCuts;
 use pattern::Code;
 use reader::Draft;
 use sets::PositionSet;
-use symbols::{ByteTest, EventTest};
 
 #[derive(Drop)]
 pub struct Sealed<A> {
@@ -116,18 +111,10 @@ impl<A: Alphabet> Sealed<A> {
     }
 }
 
-pub fn seal_bytes(draft: Draft<ByteTest>) -> Sealed<ByteClasses>
-    ensures tests { byte_tests result.alphabet ≡ tests_of draft }
+pub fn seal<A: FromTests>(draft: Draft<A::Test>) -> Sealed<A>
+    ensures tests { A.FromTests.own result.alphabet ≡ tests_of draft }
     ensures codes { codes_of result.plan ≡ sealable (draft_codes draft) }
     ensures pattern { SealedOf (draft_codes draft) (tree_of result.plan) }
 {
-    Sealed::of(ByteClasses::of(draft.tests()), draft.codes())
-}
-
-pub fn seal_events(draft: Draft<EventTest>) -> Sealed<EventCuts>
-    ensures tests { event_tests result.alphabet ≡ tests_of draft }
-    ensures codes { codes_of result.plan ≡ sealable (draft_codes draft) }
-    ensures pattern { SealedOf (draft_codes draft) (tree_of result.plan) }
-{
-    Sealed::of(EventCuts::of(draft.tests()), draft.codes())
+    Sealed::of(A::of(draft.tests()), draft.codes())
 }

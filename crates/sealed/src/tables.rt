@@ -1,12 +1,14 @@
 // What the step rule needs to know of a pattern's positions.
-ghost use Rattle.std.specs.Prelude.{◌≡◌, ◌≤◌, [], None};
+ghost use Rattle.std.specs.Prelude.{◌≡◌, ◌≤◌, None, MatchOption};
 ghost use Rattle.theory.specs.Positions.{positions};
-ghost use Rattle.theory.specs.Seal.{or_none};
 ghost use Rattle.pattern.specs.Codes.{tree};
-ghost use Rattle.sealed.specs.Shown.{Shows};
-ghost use Rattle.sealed.specs.Assembling.{rest, atom_codes};
+ghost use Rattle.sealed.specs.Parts.{part_of};
+ghost use Rattle.sealed.specs.Tables.{entry};
+ghost use Rattle.sealed.specs.Shown.{Shows, whole};
+ghost use Rattle.sealed.specs.Assembling.{atom_codes};
 
 use crate::assembly::Assembly;
+use crate::part::Part;
 use crate::rows::transposed;
 use pattern::Code;
 use sets::PositionSet;
@@ -33,13 +35,12 @@ impl Tables {
         }
     }
 
-    fn finished(assembly: &Assembly) -> Tables
-        requires { assembly.now.height ≡ 1 }
-        ensures { Shows (or_none (rest assembly.now [])) result }
+    // The tables of a pattern that is one part.
+    fn finished(part: Part, follow: &[PositionSet; 64]) -> Tables
+        ensures { Shows (whole (part_of part) (entry follow.now)) result }
     {
-        let part = assembly.parts[0];
-        let mut next = assembly.next;
-        let mut prior = transposed(&assembly.next);
+        let mut next = *follow;
+        let mut prior = transposed(follow);
         next[0] = part.first;
         prior[0] = part.last;
         Tables {
@@ -49,20 +50,25 @@ impl Tables {
         }
     }
 
+    // The tables of the codes' pattern, unless they are of none.
+    fn assembled(codes: &[Code]) -> Option<Tables>
+        requires { atom_codes codes.now ≤ 63 }
+        ensures { MatchOption result (positions (tree codes.now) ≡ positions None) (Shows (positions (tree codes.now))) }
+    {
+        let mut assembly = Assembly::new();
+        for code in codes {
+            assembly.step(*code)?;
+        }
+        match assembly.parts.as_slice() {
+            [part] => Some(Tables::finished(*part, &assembly.next)),
+            _ => None,
+        }
+    }
+
     pub fn of(codes: &[Code]) -> Tables
         requires { atom_codes codes.now ≤ 63 }
         ensures { Shows (positions (tree codes.now)) result }
     {
-        let mut assembly = Assembly::new();
-        for code in codes {
-            if !assembly.step(*code) {
-                return Tables::none();
-            }
-        }
-        if assembly.height == 1 {
-            Tables::finished(&assembly)
-        } else {
-            Tables::none()
-        }
+        Tables::assembled(codes).unwrap_or(Tables::none())
     }
 }

@@ -1,5 +1,5 @@
-// The steps of sealing: what each code does to the parts.
-ghost use Rattle.std.specs.Prelude.{◌≡◌, ◌+◌, ◌<◌, ◌≤◌, true, false, List, [], ◌∷◌};
+// The steps of sealing: what each code does to the parts. A code that lacks an operand is of no pattern.
+ghost use Rattle.std.specs.Prelude.{◌≡◌, ◌+◌, ◌<◌, ◌≤◌, List, [], ◌∷◌, Some};
 ghost use Rattle.pattern.specs.declared.Code.{Code as Codes};
 ghost use Rattle.pattern.specs.declared.Code.TheVariants.{Atom, Join, Choice, Plus, Maybe};
 ghost use Rattle.theory.specs.Seal.{sealed, or_none};
@@ -8,6 +8,7 @@ ghost use Rattle.sealed.specs.Assembling.{Taken, rest, atom_codes};
 use crate::assembly::Assembly;
 use crate::part::Part;
 use crate::rows::link_rows;
+use arrayvec::ArrayVec;
 use pattern::Code;
 use sets::PositionSet;
 
@@ -16,85 +17,63 @@ impl Assembly {
         ensures atoms { result.atoms ≡ 0 }
         ensures rest { (codes : List Codes) → or_none (rest result codes) ≡ sealed codes }
     {
-        let none = PositionSet::empty();
-        let part = Part {
-            nullable: false,
-            first: none,
-            last: none,
-        };
         Assembly {
             atoms: 0,
-            parts: [part; 63],
-            height: 0,
-            next: [none; 64],
+            parts: ArrayVec::new(),
+            next: [PositionSet::empty(); 64],
         }
     }
 
     fn atom(&mut self)
         requires { self.old.atoms < 63 }
         ensures atoms { self.new.atoms ≡ self.old.atoms + 1 }
-        ensures taken { Taken Atom self.old self.new true }
+        ensures taken { Taken Atom self.old self.new (Some tt) }
     {
         self.atoms += 1;
-        self.parts[self.height] = Part::atom(self.atoms);
-        self.height += 1;
+        self.parts.push(Part::atom(self.atoms));
     }
 
-    fn join(&mut self) -> bool
+    fn join(&mut self) -> Option<()>
         ensures atoms { self.new.atoms ≡ self.old.atoms }
         ensures taken { Taken Join self.old self.new result }
     {
-        if self.height < 2 {
-            return false;
-        }
-        let left = self.parts[self.height - 2];
-        let right = self.parts[self.height - 1];
+        let right = self.parts.pop()?;
+        let left = self.parts.pop()?;
         link_rows(&mut self.next, left.last, right.first);
-        self.height -= 1;
-        self.parts[self.height - 1] = left.join(right);
-        true
+        self.parts.push(left.join(right));
+        Some(())
     }
 
-    fn choice(&mut self) -> bool
+    fn choice(&mut self) -> Option<()>
         ensures atoms { self.new.atoms ≡ self.old.atoms }
         ensures taken { Taken Choice self.old self.new result }
     {
-        if self.height < 2 {
-            return false;
-        }
-        let left = self.parts[self.height - 2];
-        let right = self.parts[self.height - 1];
-        self.height -= 1;
-        self.parts[self.height - 1] = left.choice(right);
-        true
+        let right = self.parts.pop()?;
+        let left = self.parts.pop()?;
+        self.parts.push(left.choice(right));
+        Some(())
     }
 
-    fn plus(&mut self) -> bool
+    fn plus(&mut self) -> Option<()>
         ensures atoms { self.new.atoms ≡ self.old.atoms }
         ensures taken { Taken Plus self.old self.new result }
     {
-        if self.height == 0 {
-            return false;
-        }
-        let part = self.parts[self.height - 1];
+        let part = *self.parts.as_slice().last()?;
         link_rows(&mut self.next, part.last, part.first);
-        true
+        Some(())
     }
 
-    fn maybe(&mut self) -> bool
+    fn maybe(&mut self) -> Option<()>
         ensures atoms { self.new.atoms ≡ self.old.atoms }
         ensures taken { Taken Maybe self.old self.new result }
     {
-        if self.height == 0 {
-            return false;
-        }
-        let part = self.parts[self.height - 1];
-        self.parts[self.height - 1] = part.or_empty();
-        true
+        let part = self.parts.pop()?;
+        self.parts.push(part.or_empty());
+        Some(())
     }
 
     // Takes one code in, unless it lacks an operand.
-    pub fn step(&mut self, code: Code) -> bool
+    pub fn step(&mut self, code: Code) -> Option<()>
         requires { self.old.atoms + atom_codes (code ∷ []) ≤ 63 }
         ensures atoms { self.new.atoms ≡ self.old.atoms + atom_codes (code ∷ []) }
         ensures taken { Taken code self.old self.new result }
@@ -102,11 +81,14 @@ impl Assembly {
         match code {
             Code::Atom => {
                 self.atom();
-                true
+                Some(())
             }
             Code::Join => self.join(),
             Code::Choice => self.choice(),
-            Code::Star => self.plus() && self.maybe(),
+            Code::Star => {
+                self.plus()?;
+                self.maybe()
+            }
             Code::Plus => self.plus(),
             Code::Maybe => self.maybe(),
         }

@@ -1,35 +1,20 @@
 // A plan from codes.
-ghost use Rattle.std.specs.Prelude.{◌≡◌, [], ◌∷◌};
+ghost use Rattle.std.specs.Prelude.{◌≡◌, []};
 ghost use Rattle.sealed.specs.Assembling.{atom_codes};
-ghost use Rattle.sealed.specs.Plans.{codes_of, fits, sealable};
+ghost use Rattle.sealed.specs.Plans.{codes_of, sealable};
 
 use crate::plan::Plan;
 use crate::tables::Tables;
+use arrayvec::ArrayVec;
 use pattern::Code;
-
-fn weight(code: Code) -> usize
-    ensures { result ≡ atom_codes (code ∷ []) }
-{
-    match code {
-        Code::Atom => 1,
-        _ => 0,
-    }
-}
 
 fn atoms(codes: &[Code]) -> usize
     ensures { result ≡ atom_codes codes.now }
 {
-    let mut count = 0;
-    for code in codes {
-        count += weight(*code);
-    }
-    count
-}
-
-fn within_limits(codes: &[Code]) -> bool
-    ensures { result ≡ fits codes.now }
-{
-    codes.len() <= 1023 && atoms(codes) <= 63
+    codes
+        .iter()
+        .filter(|code| matches!(**code, Code::Atom))
+        .count()
 }
 
 impl Plan {
@@ -38,8 +23,7 @@ impl Plan {
         ensures { codes_of result ≡ [] }
     {
         Plan {
-            codes: [Code::Atom; 1023],
-            used: 0,
+            codes: ArrayVec::new(),
             tables: Tables::none(),
         }
     }
@@ -48,18 +32,15 @@ impl Plan {
     pub fn of(codes: &[Code]) -> Plan
         ensures { codes_of result ≡ sealable codes.now }
     {
-        if !within_limits(codes) {
+        if atoms(codes) > 63 {
             return Plan::none();
         }
-        let mut own = [Code::Atom; 1023];
-        for i in 0..codes.len() {
-            own[i] = codes[i];
-        }
-        let tables = Tables::of(codes);
+        let Ok(kept) = ArrayVec::try_from(codes) else {
+            return Plan::none();
+        };
         Plan {
-            codes: own,
-            used: codes.len(),
-            tables,
+            codes: kept,
+            tables: Tables::of(codes),
         }
     }
 }

@@ -1,7 +1,7 @@
 use Rattle.std.proofs.Common.{◌≡◌, ◌+◌, drop}
 use Rattle.theory.specs.Seal.{sealed, or_none}
 use Rattle.sealed.specs.Assembling.{rest, atom_codes}
-use Rattle.sealed.proofs.tables.Tables.of.Given as goal
+use Rattle.sealed.proofs.tables.Tables.assembled.Given as goal
 
 abbrev pub invariant-loop-code : goal.invariant-loop-code
 invariant-loop-code l =
