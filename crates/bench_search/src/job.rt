@@ -9,6 +9,7 @@ use memory::shelf::Shelf;
 use pair_shelf::PairShelf;
 use policies::{Clock, FlushAll};
 use search::Searcher;
+use std::str::FromStr;
 
 #[derive(Clone, Copy)]
 enum Symbols {
@@ -40,47 +41,63 @@ pub struct Job<'a> {
     record: &'a str,
 }
 
-fn symbols_named(word: &str) -> anyhow::Result<Symbols> {
-    match word {
-        "bytes" => Ok(Symbols::Bytes),
-        "events" => Ok(Symbols::Events),
-        _ => Err(anyhow!("the symbols are bytes or events")),
+impl FromStr for Symbols {
+    type Err = anyhow::Error;
+
+    fn from_str(word: &str) -> anyhow::Result<Symbols> {
+        match word {
+            "bytes" => Ok(Symbols::Bytes),
+            "events" => Ok(Symbols::Events),
+            _ => Err(anyhow!("the symbols are bytes or events")),
+        }
     }
 }
 
-fn shelf(word: &str) -> anyhow::Result<Shelves> {
-    match word {
-        "dense" => Ok(Shelves::Dense),
-        "pairs" => Ok(Shelves::Pairs),
-        _ => Err(anyhow!("a shelf is dense or pairs")),
+impl FromStr for Shelves {
+    type Err = anyhow::Error;
+
+    fn from_str(word: &str) -> anyhow::Result<Shelves> {
+        match word {
+            "dense" => Ok(Shelves::Dense),
+            "pairs" => Ok(Shelves::Pairs),
+            _ => Err(anyhow!("a shelf is dense or pairs")),
+        }
     }
 }
 
-fn policy(word: &str) -> anyhow::Result<Policies> {
-    match word {
-        "clock" => Ok(Policies::Clock),
-        "flush" => Ok(Policies::Flush),
-        _ => Err(anyhow!("a policy is clock or flush")),
+impl FromStr for Policies {
+    type Err = anyhow::Error;
+
+    fn from_str(word: &str) -> anyhow::Result<Policies> {
+        match word {
+            "clock" => Ok(Policies::Clock),
+            "flush" => Ok(Policies::Flush),
+            _ => Err(anyhow!("a policy is clock or flush")),
+        }
     }
 }
 
-impl<'a> Job<'a> {
-    pub fn of(words: &'a [String]) -> anyhow::Result<Job<'a>> {
-        let [work, of, on, by, limit, rounds, pattern, record] = words else {
+impl<'a> TryFrom<&'a [String]> for Job<'a> {
+    type Error = anyhow::Error;
+
+    fn try_from(words: &'a [String]) -> anyhow::Result<Job<'a>> {
+        let [work, symbols, shelf, policy, limit, rounds, pattern, record] = words else {
             return Err(anyhow!("a run has eight words"));
         };
         Ok(Job {
-            work: Work::of(work.as_str())?,
-            symbols: symbols_named(of.as_str())?,
-            shelf: shelf(on.as_str())?,
-            policy: policy(by.as_str())?,
-            limit: limit.as_str().parse::<usize>()?,
-            rounds: rounds.as_str().parse::<u32>()?,
+            work: work.as_str().parse()?,
+            symbols: symbols.as_str().parse()?,
+            shelf: shelf.as_str().parse()?,
+            policy: policy.as_str().parse()?,
+            limit: limit.as_str().parse()?,
+            rounds: rounds.as_str().parse()?,
             pattern: pattern.as_str(),
             record: record.as_str(),
         })
     }
+}
 
+impl<'a> Job<'a> {
     pub fn work(self, rt: &HostRuntime) -> anyhow::Result<()> {
         match self.symbols {
             Symbols::Bytes => {

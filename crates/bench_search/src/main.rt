@@ -16,7 +16,7 @@ use std::env;
 fn run(rt: &HostRuntime) -> anyhow::Result<()> {
     let words: Vec<String> = env::args(rt)?.skip(1).collect(rt.alloc())?;
     for run in words.as_slice().chunks(8) {
-        Job::of(run)?.work(rt)?;
+        Job::try_from(run)?.work(rt)?;
     }
     Ok(())
 }

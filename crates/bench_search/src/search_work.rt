@@ -3,7 +3,9 @@ use anyhow::anyhow;
 use automaton::Automaton;
 use memory::policy::Policy;
 use memory::shelf::Shelf;
-use search::{Answer, Counts, Searcher};
+use search::{Counts, Found, Listed, Searcher};
+use std::fmt;
+use std::str::FromStr;
 use std::time::Instant;
 use theory::Span;
 
@@ -18,7 +20,7 @@ pub enum Work {
 const WIDTH: usize = 20;
 
 // How many spans, their ends added up in some order that tells them apart, and what the reads came to.
-#[derive(Clone, Copy)]
+#[derive(Clone, Copy, Default)]
 struct Outcome {
     spans: u64,
     sum: u64,
@@ -28,8 +30,10 @@ struct Outcome {
     dropped: u64,
 }
 
-impl Work {
-    pub fn of(word: &str) -> anyhow::Result<Work> {
+impl FromStr for Work {
+    type Err = anyhow::Error;
+
+    fn from_str(word: &str) -> anyhow::Result<Work> {
         match word {
             "find" => Ok(Work::Find),
             "list" => Ok(Work::List),
@@ -37,28 +41,19 @@ impl Work {
             _ => Err(anyhow!("the work is find, list or records")),
         }
     }
+}
 
-    fn name(self) -> &'static str {
+impl fmt::Display for Work {
+    fn fmt<W: fmt::Write>(&self, f: &mut fmt::Formatter<W>) -> fmt::Result {
         match self {
-            Work::Find => "find",
-            Work::List => "list",
-            Work::Records => "records",
+            Work::Find => write!(f, "find"),
+            Work::List => write!(f, "list"),
+            Work::Records => write!(f, "records"),
         }
     }
 }
 
 impl Outcome {
-    fn none() -> Outcome {
-        Outcome {
-            spans: 0,
-            sum: 0,
-            reads: 0,
-            known: 0,
-            built: 0,
-            dropped: 0,
-        }
-    }
-
     fn add_span(&mut self, span: Span) {
         self.spans = self.spans.wrapping_add(1);
         let ends = (span.start as u64)
@@ -74,22 +69,18 @@ impl Outcome {
         self.dropped = self.dropped.wrapping_add(counts.dropped as u64);
     }
 
-    fn add(&mut self, answer: Answer, entries: &[Span]) {
-        match answer {
-            Answer::Found(span, counts) => {
-                if let Some(span) = span {
-                    self.add_span(span);
-                }
-                self.add_counts(counts);
-            }
-            Answer::Listed(written, _, counts) => {
-                for span in entries.iter().take(written) {
-                    self.add_span(*span);
-                }
-                self.add_counts(counts);
-            }
-            _ => {}
+    fn add_found(&mut self, found: Found) {
+        if let Some(span) = found.span {
+            self.add_span(span);
         }
+        self.add_counts(found.counts);
+    }
+
+    fn add_listed(&mut self, listed: Listed, entries: &[Span]) {
+        for span in entries.iter().take(listed.written) {
+            self.add_span(*span);
+        }
+        self.add_counts(listed.counts);
     }
 }
 
@@ -99,16 +90,23 @@ fn round<M: Automaton, S: Shelf, P: Policy>(
     record: &[M::Symbol],
     entries: &mut [Span],
 ) -> Outcome {
-    let mut outcome = Outcome::none();
+    let mut outcome = Outcome::default();
     match work {
-        Work::Find => outcome.add(searcher.find(record, 0), entries),
+        Work::Find => {
+            if let Ok(found) = searcher.find(record, 0) {
+                outcome.add_found(found);
+            }
+        }
         Work::List => {
-            let answer = searcher.list(record, 0, entries);
-            outcome.add(answer, entries);
+            if let Ok(listed) = searcher.list(record, 0, entries) {
+                outcome.add_listed(listed, entries);
+            }
         }
         Work::Records => {
             for part in record.chunks(WIDTH) {
-                outcome.add(searcher.find(part, 0), entries);
+                if let Ok(found) = searcher.find(part, 0) {
+                    outcome.add_found(found);
+                }
             }
         }
     }
@@ -123,7 +121,7 @@ pub fn time<M: Automaton, S: Shelf, P: Policy>(
     record: &[M::Symbol],
 ) -> anyhow::Result<()> {
     let mut entries = vec![in rt.alloc(); Span { start: 0, end: 0 }; 4096]?;
-    let mut outcome = Outcome::none();
+    let mut outcome = Outcome::default();
     let mut fastest = u128::MAX;
     for _ in 0..rounds {
         let start = Instant::now(rt)?;
@@ -138,9 +136,8 @@ pub fn time<M: Automaton, S: Shelf, P: Policy>(
         built,
         dropped,
     } = outcome;
-    let name = work.name();
     println!(rt;
-        "{name} spans {spans} sum {sum} reads {reads} known {known} built {built} dropped {dropped}"
+        "{work} spans {spans} sum {sum} reads {reads} known {known} built {built} dropped {dropped}"
     )?;
     eprintln!(rt; "ns {fastest}")?;
     Ok(())

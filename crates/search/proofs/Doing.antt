@@ -1,5 +1,5 @@
 -- Calls on a searcher, from the answers that the law asks for.
-use Rattle.std.proofs.Common.{◌≡◌, ℕ, ◌≤◌, Bool, cond, ltb, List, length, drop, Some, None, Option, sym, ap, ◌∙◌, subst}
+use Rattle.std.proofs.Common.{◌≡◌, ℕ, ◌≤◌, Bool, cond, ltb, List, length, drop, Some, None, Option, sym, refl, ap, ◌∙◌, subst}
 use Rattle.std.proofs.lemmas.Bool.{lt-ltb}
 use Rattle.refusal.specs.declared.Refusal.{Refusal}
 use Rattle.sets.specs.declared.positions.PositionSet.{PositionSet}
@@ -11,21 +11,19 @@ use Rattle.theory.specs.Spans.{Finds}
 use Rattle.law.specs.Subject.{Proper, Word}
 use Rattle.law.specs.Memory.{Memory}
 use Rattle.law.specs.Reading.{both}
-use Rattle.law.specs.Calls.{Find, Lists, Listed as ListsFound, Whole, Request, Search, Found, Told, Searched, Refused as Refuses, Answered, Answer as Reply}
+use Rattle.law.specs.Calls.{Find, Lists, Listed as ListsFound, Whole, Request, Search, Found as FindsOne, Told, Searched, Refused as Refuses, refusal, refused, Answered, Answer as Reply}
 use Rattle.law.specs.Law.{ByWords}
 use Rattle.law.proofs.Calling.{calling, says}
 use Rattle.automaton.specs.declared.automaton.Automaton.{Ghosts as AutomatonMeaning}
 use Rattle.search.specs.declared.searcher.Searcher.{Searcher}
 use Rattle.search.specs.declared.searcher.BackScan.{BackScan}
 use Rattle.search.specs.declared.searcher.AheadScan.{AheadScan}
-use Rattle.search.specs.declared.searcher.Finding.{Finding}
-use Rattle.search.specs.declared.searcher.Ending.{Ending}
-use Rattle.search.specs.declared.answer.Answer.{Answer}
-use Rattle.search.specs.declared.answer.Answer.TheVariants.{Refused}
+use Rattle.search.specs.declared.answer.Found.{Found}
+use Rattle.search.specs.declared.answer.Listed.{Listed}
 use Rattle.search.specs.Counted.{tallied}
 use Rattle.search.specs.Remembered.{memory, subject, Ready, Kept}
-use Rattle.search.specs.Scanning.{BackSoFar, Backed, Reached, Located, Listed}
-use Rattle.search.specs.Calling.{reply, Did}
+use Rattle.search.specs.Scanning.{BackSoFar, Backed, Reached, Located, Collected}
+use Rattle.search.specs.Calling.{Did}
 use Rattle.search.proofs.Scans.{ready_next}
 use Rattle.search.proofs.Ends.{find_some, walk_some, find_answered, list_answered, whole_answered}
 
@@ -37,14 +35,14 @@ module _ {M S P Sym : Type 0} (automaton : AutomatonMeaning M Sym) (shelf : Shel
         ready = ready_next automaton shelf policy laws s s' ready k (calling (subject automaton s) (laws s.automaton.now) (memory shelf policy s) c (memory shelf policy s') a ready.sound w).sound;
       }
 
-  pub did_refused : (s : Searcher M S P) (c : Request Sym) (q : Refusal) (entries : List Span) (a : Answer) → a ≡ Refused q → Ready automaton shelf policy s → Answered (subject automaton s) (memory shelf policy s) c (memory shelf policy s) (Refuses q) → Did automaton shelf policy s c s (reply entries a)
-  did_refused s c q entries a e ready w = subst (λ y. Did automaton shelf policy s c s y) (sym (ap (reply entries) e)) (record { answered = w; ready = ready })
+  pub did_refused : (s : Searcher M S P) (c : Request Sym) (q : Refusal) → refusal c ≡ Some q → Ready automaton shelf policy s → Did automaton shelf policy s c s (Refuses q)
+  did_refused s c q e ready = record { answered = refused q e refl refl; ready = ready }
 
   -- what a search found is right by the pattern's words
   pub by_words : (s n : Searcher M S P) (c : Request Sym) (a : Reply) → Ready automaton shelf policy s → Did automaton shelf policy s c n a → ByWords (subject automaton s) c a
   by_words s n c a ready did = (calling (subject automaton s) (laws s.automaton.now) (memory shelf policy s) c (memory shelf policy n) a ready.sound did.answered).words
 
-  pub located_some : (j n : Searcher M S P) (m : Memory PositionSet) (r : List Sym) (f s : ℕ) (back : BackScan) (ahead : AheadScan) (finding : Finding) → n.automaton ≡ j.automaton → back.at ≡ f → back.start ≡ Some s → finding.span ≡ cond (ltb s ahead.end) (Some (record { start = s; end = ahead.end })) None → tallied finding.counts ≡ both (tallied back.counts) (tallied ahead.counts) → Backed automaton shelf policy m r back j → Reached automaton shelf policy (memory shelf policy j) r s ahead n → Located automaton shelf policy m r f finding n
+  pub located_some : (j n : Searcher M S P) (m : Memory PositionSet) (r : List Sym) (f s : ℕ) (back : BackScan) (ahead : AheadScan) (finding : Found) → n.automaton ≡ j.automaton → back.at ≡ f → back.start ≡ Some s → finding.span ≡ cond (ltb s ahead.end) (Some (record { start = s; end = ahead.end })) None → tallied finding.counts ≡ both (tallied back.counts) (tallied ahead.counts) → Backed automaton shelf policy m r back j → Reached automaton shelf policy (memory shelf policy j) r s ahead n → Located automaton shelf policy m r f finding n
   located_some j n m r f s back ahead finding e at is span z b a =
       let X = subject automaton n in
       let so : BackSoFar X m r f back.cursor.set back.start (memory shelf policy j) (tallied back.counts) =
@@ -60,10 +58,10 @@ module _ {M S P Sym : Type 0} (automaton : AutomatonMeaning M Sym) (shelf : Shel
         walk = walk_some X m (memory shelf policy j) (memory shelf policy n) r f s (tallied back.counts) (tallied ahead.counts) (tallied finding.counts) begins so.walk a.walk z;
       }
 
-  pub did_found : (s n : Searcher M S P) (r : List Sym) (f : ℕ) (finding : Finding) → n.automaton ≡ s.automaton → length r ≤ 1048576 → f ≤ length r → Located automaton shelf policy (memory shelf policy s) r f finding n → Did automaton shelf policy s (Search (Find r f)) n (Searched (Found finding.span) (tallied finding.counts))
+  pub did_found : (s n : Searcher M S P) (r : List Sym) (f : ℕ) (finding : Found) → n.automaton ≡ s.automaton → length r ≤ 1048576 → f ≤ length r → Located automaton shelf policy (memory shelf policy s) r f finding n → Did automaton shelf policy s (Search (Find r f)) n (Searched (FindsOne finding.span) (tallied finding.counts))
   did_found s n r f finding e l h w =
       record {
-        answered = subst (λ y. Answered (automaton.subject y.now) (memory shelf policy s) (Search (Find r f)) (memory shelf policy n) (Searched (Found finding.span) (tallied finding.counts))) e
+        answered = subst (λ y. Answered (automaton.subject y.now) (memory shelf policy s) (Search (Find r f)) (memory shelf policy n) (Searched (FindsOne finding.span) (tallied finding.counts))) e
             (find_answered (subject automaton n) (memory shelf policy s) (memory shelf policy n) r f finding.span (tallied finding.counts) l h w.span_is w.walk);
         ready = w.ready;
       }
@@ -76,7 +74,7 @@ module _ {M S P Sym : Type 0} (automaton : AutomatonMeaning M Sym) (shelf : Shel
         ready = w.ready;
       }
 
-  pub did_listed : (s n : Searcher M S P) (r : List Sym) (entries f : ℕ) (xs : List Span) (ending : Ending) → n.automaton ≡ s.automaton → length r ≤ 1048576 → f ≤ length r → Listed automaton shelf policy (memory shelf policy s) r entries f xs ending n → Did automaton shelf policy s (Search (Lists r f entries)) n (Searched (ListsFound xs ending.rest) (tallied ending.counts))
+  pub did_listed : (s n : Searcher M S P) (r : List Sym) (entries f : ℕ) (xs : List Span) (ending : Listed) → n.automaton ≡ s.automaton → length r ≤ 1048576 → f ≤ length r → Collected automaton shelf policy (memory shelf policy s) r entries f xs ending n → Did automaton shelf policy s (Search (Lists r f entries)) n (Searched (ListsFound xs ending.rest) (tallied ending.counts))
   did_listed s n r entries f xs ending e l h w =
       record {
         answered = subst (λ y. Answered (automaton.subject y.now) (memory shelf policy s) (Search (Lists r f entries)) (memory shelf policy n) (Searched (ListsFound xs ending.rest) (tallied ending.counts))) e

@@ -15,7 +15,8 @@ use Rattle.theory.specs.Scans.{start, far, from_start, find, list, run, whole}
 use Rattle.law.specs.Subject.{Subject}
 use Rattle.law.specs.Memory.{Memory, taken, sets_live, allowance, steps_known, without_places, emptied, with_limit, Sound}
 use Rattle.law.specs.Reading.{Counts as Tallies, both, Walk}
-use Rattle.law.specs.Calls.{Find, Lists, Whole, Search, Limit, Clear, Found, Listed, Told, Searched, Dropped, Refused, refused_if, refusal, within, beyond, Answered, refused, searched, limited, cleared}
+use Rattle.law.specs.Calls.{Find, Lists, Whole, Search, Limit, Clear, Found, Listed, Told, Searched, Dropped, refused_if, refusal, within, beyond, Answered, searched, limited, cleared}
+use Rattle.law.proofs.Maps.{some_not}
 use Rattle.law.proofs.Walks.{walk_append}
 use Rattle.search.proofs.Views.{same_memory}
 use Rattle.search.proofs.Noting.{none_left}
@@ -37,6 +38,27 @@ and_false false = refl
 cases_live : (o : Option (State PositionSet)) → (o ≡ None) ⊎ ((s : State PositionSet) × (o ≡ Some s))
 cases_live None = inl refl
 cases_live (Some s) = inr (s, refl)
+
+refusing : (b : Bool) (cause : Cause) (o : Option Refusal) → b ≡ true → refused_if b cause o ≡ Some (record { cause = cause; place = 0 })
+refusing b cause o e = ap (λ y. refused_if y cause o) e
+
+passing : (b : Bool) (cause : Cause) (o : Option Refusal) → b ≡ false → refused_if b cause o ≡ o
+passing b cause o e = ap (λ y. refused_if y cause o) e
+
+-- a record that is too long is refused, whatever comes next
+pub refused_first : (b : Bool) (cause : Cause) (o : Option Refusal) (q : Refusal) → refused_if b cause None ≡ Some q → refused_if b cause o ≡ Some q
+refused_first true cause o q e = e
+refused_first false cause o q e = absurd (some_not q e)
+
+pub too_large : (k : ℕ) → 64 < k → refused_if (ltb 64 k) LimitTooLarge None ≡ Some (record { cause = LimitTooLarge; place = 0 })
+too_large k l = refusing (ltb 64 k) LimitTooLarge None (lt-ltb 64 k l)
+
+module _ {Sym : Type 0} where
+  pub too_long : (r : List Sym) → 1048576 < length r → refusal (Search (Whole r)) ≡ Some (record { cause = RecordTooLong; place = 0 })
+  too_long r l = refusing (ltb 1048576 (length r)) RecordTooLong None (lt-ltb 1048576 (length r) l)
+
+  pub past_end : (r : List Sym) (f : ℕ) → length r ≤ 1048576 → length r < f → refusal (Search (Find r f)) ≡ Some (record { cause = FromPastEnd; place = 0 })
+  past_end r f l h = passing (ltb 1048576 (length r)) RecordTooLong _ (le-ltb 1048576 (length r) l) ∙ refusing (ltb (length r) f) FromPastEnd None (lt-ltb (length r) f h)
 
 module _ {Sym : Type 0} (X : Subject Sym PositionSet) where
   free_above : (m : Memory PositionSet) (k : ℕ) → Sound X m → 64 ≤ k → m.live k ≡ None
@@ -72,17 +94,8 @@ module _ {Sym : Type 0} (X : Subject Sym PositionSet) where
 
   -- limit
 
-  refusing : (b : Bool) (cause : Cause) (o : Option Refusal) → b ≡ true → refused_if b cause o ≡ Some (record { cause = cause; place = 0 })
-  refusing b cause o e = ap (λ y. refused_if y cause o) e
-
-  passing : (b : Bool) (cause : Cause) (o : Option Refusal) → b ≡ false → refused_if b cause o ≡ o
-  passing b cause o e = ap (λ y. refused_if y cause o) e
-
   unrefused : (k : ℕ) → k ≤ 64 → refusal {Sym = Sym} (Limit k) ≡ None
   unrefused k l = passing (ltb 64 k) LimitTooLarge None (le-ltb 64 k l)
-
-  pub limit_refused : (m : Memory PositionSet) (k : ℕ) → 64 < k → Answered X m (Limit k) m (Refused (record { cause = LimitTooLarge; place = 0 }))
-  limit_refused m k l = refused (record { cause = LimitTooLarge; place = 0 }) (refusing (ltb 64 k) LimitTooLarge None (lt-ltb 64 k l)) refl refl
 
   pub limit_within : (m : Memory PositionSet) (k : ℕ) → k ≤ 64 → sets_live m ≤ allowance (with_limit m k) → Answered X m (Limit k) (with_limit m k) (Dropped 0)
   limit_within m k l few = limited k 0 refl (unrefused k l) refl (within few refl refl)
@@ -93,14 +106,6 @@ module _ {Sym : Type 0} (X : Subject Sym PositionSet) where
 
   -- find
 
-  pub find_long : (m : Memory PositionSet) (r : List Sym) (f : ℕ) → 1048576 < length r → Answered X m (Search (Find r f)) m (Refused (record { cause = RecordTooLong; place = 0 }))
-  find_long m r f l = refused (record { cause = RecordTooLong; place = 0 }) (refusing (ltb 1048576 (length r)) RecordTooLong _ (lt-ltb 1048576 (length r) l)) refl refl
-
-  pub find_past : (m : Memory PositionSet) (r : List Sym) (f : ℕ) → length r ≤ 1048576 → length r < f → Answered X m (Search (Find r f)) m (Refused (record { cause = FromPastEnd; place = 0 }))
-  find_past m r f l h =
-      refused (record { cause = FromPastEnd; place = 0 })
-      (passing (ltb 1048576 (length r)) RecordTooLong _ (le-ltb 1048576 (length r) l) ∙ refusing (ltb (length r) f) FromPastEnd None (lt-ltb (length r) f h)) refl refl
-
   pub accepted : (r : List Sym) (f : ℕ) → length r ≤ 1048576 → f ≤ length r → refusal (Search (Find r f)) ≡ None
   accepted r f l h = passing (ltb 1048576 (length r)) RecordTooLong _ (le-ltb 1048576 (length r) l) ∙ passing (ltb (length r) f) FromPastEnd None (le-ltb (length r) f h)
 
@@ -108,14 +113,6 @@ module _ {Sym : Type 0} (X : Subject Sym PositionSet) where
   find_answered m n r f x k l h e w = searched (Find r f) k refl (accepted r f l h) (ap (λ y. Searched (Found y) k) e) w
 
   -- list
-
-  pub list_long : (m : Memory PositionSet) (r : List Sym) (f entries : ℕ) → 1048576 < length r → Answered X m (Search (Lists r f entries)) m (Refused (record { cause = RecordTooLong; place = 0 }))
-  list_long m r f entries l = refused (record { cause = RecordTooLong; place = 0 }) (refusing (ltb 1048576 (length r)) RecordTooLong _ (lt-ltb 1048576 (length r) l)) refl refl
-
-  pub list_past : (m : Memory PositionSet) (r : List Sym) (f entries : ℕ) → length r ≤ 1048576 → length r < f → Answered X m (Search (Lists r f entries)) m (Refused (record { cause = FromPastEnd; place = 0 }))
-  list_past m r f entries l h =
-      refused (record { cause = FromPastEnd; place = 0 })
-      (passing (ltb 1048576 (length r)) RecordTooLong _ (le-ltb 1048576 (length r) l) ∙ refusing (ltb (length r) f) FromPastEnd None (lt-ltb (length r) f h)) refl refl
 
   pub list_answered : (m n : Memory PositionSet) (r : List Sym) (f entries : ℕ) (xs : List Span) (rest : Option ℕ) (k : Tallies) → length r ≤ 1048576 → f ≤ length r → xs ≡ (list X.machine r entries f).written → rest ≡ (list X.machine r entries f).rest → Walk X m (list_reads X.machine r entries f) n k → Answered X m (Search (Lists r f entries)) n (Searched (Listed xs rest) k)
   list_answered m n r f entries xs rest k l h ex er w =
@@ -191,9 +188,6 @@ module _ {Sym : Type 0} (X : Subject Sym PositionSet) where
 
   pub short : (r : List Sym) → length r ≤ 1048576 → refusal (Search (Whole r)) ≡ None
   short r l = passing (ltb 1048576 (length r)) RecordTooLong None (le-ltb 1048576 (length r) l)
-
-  pub whole_long : (m : Memory PositionSet) (r : List Sym) → 1048576 < length r → Answered X m (Search (Whole r)) m (Refused (record { cause = RecordTooLong; place = 0 }))
-  whole_long m r l = refused (record { cause = RecordTooLong; place = 0 }) (refusing (ltb 1048576 (length r)) RecordTooLong None (lt-ltb 1048576 (length r) l)) refl refl
 
   pub whole_answered : (m n : Memory PositionSet) (r : List Sym) (y : Bool) (k : Tallies) → length r ≤ 1048576 → y ≡ whole X.machine r → Walk X m (ahead_reads X.machine X.machine.begin (drop 0 r)) n k → Answered X m (Search (Whole r)) n (Searched (Told y) k)
   whole_answered m n r y k l e w = searched (Whole r) k refl (passing (ltb 1048576 (length r)) RecordTooLong None (le-ltb 1048576 (length r) l)) (ap (λ z. Searched (Told z) k) e) w

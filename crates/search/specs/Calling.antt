@@ -1,32 +1,38 @@
 -- What a call on a searcher does, in the law's words.
-use Rattle.std.specs.Prelude.{ℕ, List, take}
+use Rattle.std.specs.Prelude.{ℕ, List, take, Ok, Err, Result}
 use Rattle.memory.specs.declared.shelf.Shelf.{Ghosts as ShelfMeaning}
 use Rattle.memory.specs.declared.policy.Policy.{Ghosts as PolicyMeaning}
+use Rattle.refusal.specs.declared.Refusal.{Refusal}
 use Rattle.theory.specs.declared.Span.{Span}
-use Rattle.law.specs.Calls.{Request, Searched, Found as Finds, Listed as Lists, Told, Dropped as Drops, Refused as Refuses, Answered}
+use Rattle.law.specs.Calls.{Request, Searched, Found as Finds, Listed as Lists, Told, Refused as Refuses, Answered}
 use Rattle.law.specs.Calls.{Answer as Reply}
 use Rattle.automaton.specs.declared.automaton.Automaton.{Ghosts as AutomatonMeaning}
 use Rattle.search.specs.declared.searcher.Searcher.{Searcher}
-use Rattle.search.specs.declared.answer.Answer.{Answer}
-use Rattle.search.specs.declared.answer.Answer.TheVariants.{Found, Listed, Whole, Dropped, Refused}
+use Rattle.search.specs.declared.answer.Found.{Found}
+use Rattle.search.specs.declared.answer.Listed.{Listed}
+use Rattle.search.specs.declared.answer.Whole.{Whole}
 use Rattle.search.specs.Counted.{tallied}
 use Rattle.search.specs.Remembered.{memory, subject, Ready}
 
--- an answer, with the entries that the call was lent
-abbrev pub reply : List Span → Answer → Reply
-reply entries (Found x k) = Searched (Finds x) (tallied k)
-reply entries (Listed n rest k) = Searched (Lists (take n entries) rest) (tallied k)
-reply entries (Whole y k) = Searched (Told y) (tallied k)
-reply entries (Dropped gone) = Drops gone
-reply entries (Refused q) = Refuses q
+abbrev pub found : Found → Reply
+found x = Searched (Finds x.span) (tallied x.counts)
 
--- how many entries the answer says were written
-abbrev pub written : Answer → ℕ
-written (Found x k) = 0
-written (Listed n rest k) = n
-written (Whole y k) = 0
-written (Dropped gone) = 0
-written (Refused q) = 0
+-- with the entries that the list was lent
+abbrev pub listed : List Span → Listed → Reply
+listed entries x = Searched (Lists (take x.written entries) x.rest) (tallied x.counts)
+
+abbrev pub told : Whole → Reply
+told x = Searched (Told x.is_word) (tallied x.counts)
+
+-- a refusal, or what a call answers otherwise
+abbrev pub reply : {A : Type 0} → (A → Reply) → Result A Refusal → Reply
+reply f (Ok x) = f x
+reply f (Err q) = Refuses q
+
+-- how many entries a list says were written
+abbrev pub written : Result Listed Refusal → ℕ
+written (Ok x) = x.written
+written (Err q) = 0
 
 -- the call was answered as the law has it, and the searcher is ready for the next
 pub record Did {M S P Sym : Type 0} (automaton : AutomatonMeaning M Sym) (shelf : ShelfMeaning S) (policy : PolicyMeaning P) (before : Searcher M S P) (c : Request Sym) (after : Searcher M S P) (a : Reply) : Type 0 where

@@ -17,8 +17,8 @@ use Rattle.search.specs.declared.searcher.BackScan.{BackScan}
 use Rattle.search.specs.declared.searcher.BackRun.{BackRun}
 use Rattle.search.specs.declared.searcher.AheadScan.{AheadScan}
 use Rattle.search.specs.declared.searcher.AheadRun.{AheadRun}
-use Rattle.search.specs.declared.searcher.Finding.{Finding}
-use Rattle.search.specs.declared.searcher.Ending.{Ending}
+use Rattle.search.specs.declared.answer.Found.{Found}
+use Rattle.search.specs.declared.answer.Listed.{Listed}
 use Rattle.search.specs.declared.counts.Counts.{Counts}
 use Rattle.search.specs.Counted.{tallied, Bounded}
 use Rattle.search.specs.Remembered.{no_set, state, memory, subject, Ready, At}
@@ -78,10 +78,10 @@ pub record Reached {M S P Sym : Type 0} (automaton : AutomatonMeaning M Sym) (sh
   pub end_is : scan.end ≡ far (subject automaton s).machine from from (subject automaton s).machine.begin (drop from r)
 
 -- a find is over
-pub record Located {M S P Sym : Type 0} (automaton : AutomatonMeaning M Sym) (shelf : ShelfMeaning S) (policy : PolicyMeaning P) (m : Memory PositionSet) (r : List Sym) (from : ℕ) (finding : Finding) (s : Searcher M S P) : Type 0 where
+pub record Located {M S P Sym : Type 0} (automaton : AutomatonMeaning M Sym) (shelf : ShelfMeaning S) (policy : PolicyMeaning P) (m : Memory PositionSet) (r : List Sym) (from : ℕ) (found : Found) (s : Searcher M S P) : Type 0 where
   pub ready : Ready automaton shelf policy s
-  pub span_is : finding.span ≡ find (subject automaton s).machine r from
-  pub walk : Walk (subject automaton s) m (find_reads (subject automaton s).machine r from) (memory shelf policy s) (tallied finding.counts)
+  pub span_is : found.span ≡ find (subject automaton s).machine r from
+  pub walk : Walk (subject automaton s) m (find_reads (subject automaton s).machine r from) (memory shelf policy s) (tallied found.counts)
 
 -- a list of r from `from` on, from the memory m to n, has written xs and has `left` entries; it goes on from `at`
 pub record ListSoFar {Sym : Type 0} (X : Subject Sym PositionSet) (m : Memory PositionSet) (r : List Sym) (entries from : ℕ) (xs : List Span) (left at : ℕ) (n : Memory PositionSet) (k : Tallies) : Type 0 where
@@ -96,11 +96,11 @@ pub record Listing {M S P Sym : Type 0} (automaton : AutomatonMeaning M Sym) (sh
   pub so_far : ListSoFar (subject automaton s) m r entries from xs left at (memory shelf policy s) (tallied k)
 
 -- a list is over: it wrote xs
-pub record Listed {M S P Sym : Type 0} (automaton : AutomatonMeaning M Sym) (shelf : ShelfMeaning S) (policy : PolicyMeaning P) (m : Memory PositionSet) (r : List Sym) (entries from : ℕ) (xs : List Span) (ending : Ending) (s : Searcher M S P) : Type 0 where
+pub record Collected {M S P Sym : Type 0} (automaton : AutomatonMeaning M Sym) (shelf : ShelfMeaning S) (policy : PolicyMeaning P) (m : Memory PositionSet) (r : List Sym) (entries from : ℕ) (xs : List Span) (listed : Listed) (s : Searcher M S P) : Type 0 where
   pub ready : Ready automaton shelf policy s
   pub written_is : xs ≡ (list (subject automaton s).machine r entries from).written
-  pub rest_is : ending.rest ≡ (list (subject automaton s).machine r entries from).rest
-  pub walk : Walk (subject automaton s) m (list_reads (subject automaton s).machine r entries from) (memory shelf policy s) (tallied ending.counts)
+  pub rest_is : listed.rest ≡ (list (subject automaton s).machine r entries from).rest
+  pub walk : Walk (subject automaton s) m (list_reads (subject automaton s).machine r entries from) (memory shelf policy s) (tallied listed.counts)
 
 -- a collector keeps its slice, and what lies behind its entries
 pub record Filled (before after : Collector Span) : Type 0 where

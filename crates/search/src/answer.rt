@@ -1,17 +1,25 @@
+// What the searches answer.
 use crate::counts::Counts;
-use refusal::Refusal;
 use theory::Span;
 
-// What a call answers.
+// The span that a find found, if there is one.
 #[derive(Clone, Copy)]
-pub enum Answer {
-    // A find: the span, if there is one.
-    Found(Option<Span>, Counts),
-    // A list: how many spans it wrote, and the rest.
-    Listed(usize, Option<usize>, Counts),
-    // A whole: whether the record is a word.
-    Whole(bool, Counts),
-    // A limit or a clear: how many steps were dropped.
-    Dropped(usize),
-    Refused(Refusal),
+pub struct Found {
+    pub span: Option<Span>,
+    pub counts: Counts,
+}
+
+// How many spans a list wrote, and its rest.
+#[derive(Clone, Copy)]
+pub struct Listed {
+    pub written: usize,
+    pub rest: Option<usize>,
+    pub counts: Counts,
+}
+
+// Whether the record is a word.
+#[derive(Clone, Copy)]
+pub struct Whole {
+    pub is_word: bool,
+    pub counts: Counts,
 }

@@ -1,9 +1,9 @@
 ghost use Rattle.std.specs.Prelude.{◌≡◌, ◌≤◌};
-ghost use Rattle.law.specs.Reading.{zeros, both};
+ghost use Rattle.law.specs.Reading.{both};
 ghost use Rattle.search.specs.Counted.{tallied, known_more, Low};
 
 // What a search cost: symbols read, of these by known, built and plain steps; and steps dropped.
-#[derive(Clone, Copy)]
+#[derive(Clone, Copy, Debug, Default, PartialEq, Eq)]
 pub struct Counts {
     pub reads: usize,
     pub known: usize,
@@ -13,18 +13,6 @@ pub struct Counts {
 }
 
 impl Counts {
-    pub(crate) fn none() -> Counts
-        ensures { tallied result ≡ zeros }
-    {
-        Counts {
-            reads: 0,
-            known: 0,
-            built: 0,
-            plain: 0,
-            dropped: 0,
-        }
-    }
-
     // With so many reads more, by known steps.
     pub(crate) fn more_known(self, reads: usize) -> Counts
         requires low { Low self }
@@ -34,9 +22,7 @@ impl Counts {
         Counts {
             reads: self.reads + reads,
             known: self.known + reads,
-            built: self.built,
-            plain: self.plain,
-            dropped: self.dropped,
+            ..self
         }
     }
 

@@ -9,6 +9,6 @@ mod answer;
 mod counts;
 mod searcher;
 
-pub use answer::Answer;
+pub use answer::{Found, Listed, Whole};
 pub use counts::Counts;
 pub use searcher::Searcher;

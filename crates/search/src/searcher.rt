@@ -7,7 +7,6 @@ use automaton::Automaton;
 use memory::policy::Policy;
 use memory::shelf::Shelf;
 use sets::{PlaceSet, PositionSet};
-use theory::Span;
 
 mod ahead;
 mod back;
@@ -87,20 +86,6 @@ struct AheadRun {
     place: u8,
     end: usize,
     met: PlaceSet,
-}
-
-// What a find comes to.
-#[derive(Clone, Copy)]
-struct Finding {
-    span: Option<Span>,
-    counts: Counts,
-}
-
-// How a list ends: its rest.
-#[derive(Clone, Copy)]
-struct Ending {
-    rest: Option<usize>,
-    counts: Counts,
 }
 
 impl<'p, M: Automaton, S: Shelf, P: Policy> Searcher<'p, M, S, P> {

@@ -15,11 +15,11 @@ use Rattle.law.proofs.Calling.{series_snoc}
 use Rattle.law.proofs.Laws.{every, two}
 use Rattle.automaton.specs.declared.automaton.Automaton.{Ghosts as AutomatonMeaning}
 use Rattle.search.specs.declared.searcher.Searcher.{Searcher}
-use Rattle.search.specs.declared.answer.Answer.{Answer}
 use Rattle.series.specs.declared.series.Call.{Call}
 use Rattle.series.specs.declared.series.Call.TheVariants as call
 use Rattle.search.specs.Remembered.{memory, subject}
 use Rattle.search.specs.Calling.{Did}
+use Rattle.series.specs.Answers.{Outcome}
 use Rattle.series.specs.Performed.{portion, request, requests, each, taken, Agrees, Continues}
 
 cons_same : {A : Type 0} (x y : A) (xs ys : List A) → x ≡ y → xs ≡ ys → ◌≡◌ {A = List A} (x ∷ xs) (y ∷ ys)
@@ -49,7 +49,7 @@ module _ {Sym : Type 0} where
       let e : portion c (less - taken less cs) ≡ portion c (left - (portion d left + taken less cs)) = ap (portion c) (omega arith) in
       omega (arith, taken_snoc less cs c)
 
-  pub each_snoc : {B : Type 0} (f : List Span → Answer → B) (pool : List Span) (cs : List (Call Sym)) (rs : List Answer) (c : Call Sym) (a : Answer) → length rs ≡ length cs → each f pool (cs ++ (c ∷ [])) (rs ++ (a ∷ [])) ≡ each f pool cs rs ++ (f (take (portion c (length pool - taken (length pool) cs)) (drop (taken (length pool) cs) pool)) a ∷ [])
+  pub each_snoc : {B : Type 0} (f : List Span → Outcome → B) (pool : List Span) (cs : List (Call Sym)) (rs : List Outcome) (c : Call Sym) (a : Outcome) → length rs ≡ length cs → each f pool (cs ++ (c ∷ [])) (rs ++ (a ∷ [])) ≡ each f pool cs rs ++ (f (take (portion c (length pool - taken (length pool) cs)) (drop (taken (length pool) cs) pool)) a ∷ [])
   each_snoc f pool [] [] c a e =
       let n : length pool ≡ length pool - 0 = omega arith in
       ap (λ k. f (take (portion c k) pool) a ∷ []) n
@@ -68,7 +68,7 @@ module _ {Sym : Type 0} where
       ∙ ap (λ xs. each f rest cs rs ++ (f (take (portion c (length pool - (p + taken (length pool - p) cs))) xs) a ∷ [])) (drop-drop (taken (length pool - p) cs) p pool))
 
   -- entries behind those taken do not count
-  pub each_front : {B : Type 0} (f : List Span → Answer → B) (pool pool' : List Span) (cs : List (Call Sym)) (rs : List Answer) → length pool ≡ length pool' → take (taken (length pool) cs) pool ≡ take (taken (length pool) cs) pool' → each f pool cs rs ≡ each f pool' cs rs
+  pub each_front : {B : Type 0} (f : List Span → Outcome → B) (pool pool' : List Span) (cs : List (Call Sym)) (rs : List Outcome) → length pool ≡ length pool' → take (taken (length pool) cs) pool ≡ take (taken (length pool) cs) pool' → each f pool cs rs ≡ each f pool' cs rs
   each_front f pool pool' [] rs l e = refl
   each_front f pool pool' (c ∷ cs) [] l e = refl
   each_front f pool pool' (c ∷ cs) (a ∷ rs) l e =
@@ -99,10 +99,10 @@ module _ {Sym : Type 0} where
       let q : n ≡ portion c (N - taken N (take i calls)) = p ∙ ap (λ k. portion c (N - k)) u in
       omega arith
 
-  pub each_more : {B : Type 0} (f : List Span → Answer → B) (N : ℕ) (pool pool' part : List Span) (k : ℕ) (calls : List (Call Sym)) (answers : List Answer) (i used n : ℕ) (c : Call Sym) (a : Answer) → length pool ≡ N → length pool' ≡ N → pool' ≡ put_mid used k pool part → length part ≡ n → used ≤ N → i < length calls → i < length answers → c ≡ get_or calls i c → used ≡ taken N (take i calls) → n ≡ portion c (N - used) → each f pool' (take (i + 1) calls) (take (i + 1) (set answers i a)) ≡ each f pool (take i calls) (take i answers) ++ (f part a ∷ [])
+  pub each_more : {B : Type 0} (f : List Span → Outcome → B) (N : ℕ) (pool pool' part : List Span) (k : ℕ) (calls : List (Call Sym)) (answers : List Outcome) (i used n : ℕ) (c : Call Sym) (a : Outcome) → length pool ≡ N → length pool' ≡ N → pool' ≡ put_mid used k pool part → length part ≡ n → used ≤ N → i < length calls → i < length answers → c ≡ get_or calls i c → used ≡ taken N (take i calls) → n ≡ portion c (N - used) → each f pool' (take (i + 1) calls) (take (i + 1) (set answers i a)) ≡ each f pool (take i calls) (take i answers) ++ (f part a ∷ [])
   each_more f N pool pool' part k calls answers i used n c a lp lp' e ln lu hc ha at u p =
       let cs : List (Call Sym) = take i calls in
-      let rs : List Answer = take i answers in
+      let rs : List Outcome = take i answers in
       let t : taken (length pool') cs ≡ used = ap (λ x. taken x cs) lp' ∙ sym u in
       let t₀ : taken (length pool) cs ≡ used = ap (λ x. taken x cs) lp ∙ sym u in
       let q : portion c (length pool' - taken (length pool') cs) ≡ (used + n) - used = ap (λ x. portion c (length pool' - x)) t ∙ ap (λ x. portion c (x - used)) lp' ∙ sym p ∙ omega arith in
@@ -117,7 +117,7 @@ module _ {Sym : Type 0} where
       ∙ ap (λ x. each f pool' cs rs ++ (f x a ∷ [])) here
       ∙ ap (λ x. x ++ (f part a ∷ [])) (sym (each_front f pool pool' cs rs (lp ∙ sym lp') front))
 
-  pub each_same : {B : Type 0} (f : List Span → Answer → B) (N : ℕ) (pool : List Span) (calls : List (Call Sym)) (answers : List Answer) (i used n : ℕ) (c : Call Sym) (a : Answer) → length pool ≡ N → i < length calls → i < length answers → c ≡ get_or calls i c → used ≡ taken N (take i calls) → n ≡ portion c (N - used) → each f pool (take (i + 1) calls) (take (i + 1) (set answers i a)) ≡ each f pool (take i calls) (take i answers) ++ (f (take n (drop used pool)) a ∷ [])
+  pub each_same : {B : Type 0} (f : List Span → Outcome → B) (N : ℕ) (pool : List Span) (calls : List (Call Sym)) (answers : List Outcome) (i used n : ℕ) (c : Call Sym) (a : Outcome) → length pool ≡ N → i < length calls → i < length answers → c ≡ get_or calls i c → used ≡ taken N (take i calls) → n ≡ portion c (N - used) → each f pool (take (i + 1) calls) (take (i + 1) (set answers i a)) ≡ each f pool (take i calls) (take i answers) ++ (f (take n (drop used pool)) a ∷ [])
   each_same f N pool calls answers i used n c a lp hc ha at u p =
       let cs : List (Call Sym) = take i calls in
       let t : taken (length pool) cs ≡ used = ap (λ x. taken x cs) lp ∙ sym u in

@@ -6,10 +6,9 @@ use Rattle.law.specs.Subject.{Subject}
 use Rattle.law.specs.Memory.{Memory, opened}
 use Rattle.law.specs.Law.{Lawful, searches, outcome, replies as law_replies}
 use Rattle.law.specs.Calls.{Request, Search, Find, Lists, Whole, Limit, Clear, Answer as Reply, Series}
-use Rattle.search.specs.declared.answer.Answer.{Answer}
 use Rattle.series.specs.declared.series.Call.{Call}
 use Rattle.series.specs.declared.series.Call.TheVariants as call
-use Rattle.search.specs.Calling.{reply, written}
+use Rattle.series.specs.Answers.{Outcome, reply, written}
 
 -- how many entries a call takes if so many are left
 abbrev pub portion : {Sym : Type 0} → Call Sym → ℕ → ℕ
@@ -38,17 +37,17 @@ taken left [] = 0
 taken left (c ∷ cs) = portion c left + taken (left - portion c left) cs
 
 -- f of the entries of each call and its answer
-abbrev pub each : {Sym B : Type 0} → (List Span → Answer → B) → List Span → List (Call Sym) → List Answer → List B
+abbrev pub each : {Sym B : Type 0} → (List Span → Outcome → B) → List Span → List (Call Sym) → List Outcome → List B
 each f pool [] rs = []
 each f pool (c ∷ cs) [] = []
 each f pool (c ∷ cs) (a ∷ rs) = f (take (portion c (length pool)) pool) a ∷ each f (drop (portion c (length pool)) pool) cs rs
 
 -- their answers, with what was written into the pool
-abbrev pub replies : {Sym : Type 0} → List Span → List (Call Sym) → List Answer → List Reply
+abbrev pub replies : {Sym : Type 0} → List Span → List (Call Sym) → List Outcome → List Reply
 replies = each reply
 
 -- the entries of each call that its answer does not say were written
-abbrev pub behind : {Sym : Type 0} → List Span → List (Call Sym) → List Answer → List (List Span)
+abbrev pub behind : {Sym : Type 0} → List Span → List (Call Sym) → List Outcome → List (List Span)
 behind = each (λ part a. drop (written a) part)
 
 -- the same searches in order come to the same findings, refusals and reads
@@ -69,7 +68,7 @@ Continues {Sym} X m cs rs n =
     Series X (opened m.places m.capacity) ds ts m → Lawful X m.places m.capacity (ds ++ cs) (ts ++ rs) n
 
 -- what a series leaves as it was: the answers behind those that it made, and the entries that no list wrote
-pub record Spared {Sym : Type 0} (made : ℕ) (calls : List (Call Sym)) (entries entries' : List Span) (answers answers' : List Answer) : Type 0 where
+pub record Spared {Sym : Type 0} (made : ℕ) (calls : List (Call Sym)) (entries entries' : List Span) (answers answers' : List Outcome) : Type 0 where
   pub unanswered : drop made answers' ≡ drop made answers
   pub unwritten : behind entries' (take made calls) (take made answers') ≡ behind entries (take made calls) (take made answers')
   pub untaken : drop (taken (length entries) (take made calls)) entries' ≡ drop (taken (length entries) (take made calls)) entries

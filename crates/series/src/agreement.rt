@@ -4,11 +4,12 @@ ghost use Rattle.law.specs.Law.{Lawful};
 ghost use Rattle.search.specs.Remembered.{memory, Ready};
 ghost use Rattle.series.specs.Performed.{requests, replies, Same, Spared};
 
+use crate::answer::Answer;
 use crate::series::{Call, Session, run};
 use automaton::Automaton;
 use memory::policy::Policy;
 use memory::shelf::Shelf;
-use search::Answer;
+use refusal::Refusal;
 use theory::Span;
 
 // One of two series: the shelf and the policy that its searcher is opened on, and the calls.
@@ -33,10 +34,10 @@ pub fn agree<'p, M: Automaton, S: Shelf, P: Policy, T: Shelf, Q: Policy>(
     automaton: &'p M,
     first: Side<'_, '_, M::Symbol, S, P>,
     first_entries: &mut [Span],
-    first_answers: &mut [Answer],
+    first_answers: &mut [Result<Answer, Refusal>],
     second: Side<'_, '_, M::Symbol, T, Q>,
     second_entries: &mut [Span],
-    second_answers: &mut [Answer],
+    second_answers: &mut [Result<Answer, Refusal>],
 ) -> Agreement<'p, M, S, P, T, Q>
     ensures counts { (result.first.made ≡ min (length first.entry.calls.now) (length first_answers.old)) × (result.second.made ≡ min (length second.entry.calls.now) (length second_answers.old)) }
     ensures first { Lawful (M.Automaton.subject automaton.now) (S.Shelf.room first.entry.shelf) (S.Shelf.most first.entry.shelf) (requests (length first_entries.old) (take result.first.made first.entry.calls.now)) (replies first_entries.new (take result.first.made first.entry.calls.now) (take result.first.made first_answers.new)) (memory S.Shelf P.Policy result.first.searcher) }

@@ -2,7 +2,9 @@
 #![tactic(auto)]
 
 mod agreement;
+mod answer;
 mod series;
 
 pub use agreement::{Agreement, Side, agree};
+pub use answer::Answer;
 pub use series::{Call, Session, perform, run};

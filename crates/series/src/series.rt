@@ -3,13 +3,16 @@ ghost use Rattle.std.specs.Prelude.{◌≡◌, ℕ, ◌+◌, ◌≤◌, min, len
 ghost use Rattle.law.specs.Calls.{Series};
 ghost use Rattle.law.specs.Law.{Lawful};
 ghost use Rattle.search.specs.Remembered.{memory, subject, Ready};
-ghost use Rattle.search.specs.Calling.{reply, written, Did};
+ghost use Rattle.search.specs.Calling.{Did};
+ghost use Rattle.series.specs.Answers.{reply, written};
 ghost use Rattle.series.specs.Performed.{portion, request, requests, replies, behind, taken, Agrees, Continues};
 
+use crate::answer::Answer;
 use automaton::Automaton;
 use memory::policy::Policy;
 use memory::shelf::Shelf;
-use search::{Answer, Searcher};
+use refusal::Refusal;
+use search::Searcher;
 use theory::Span;
 
 // One call on a searcher: a search, which borrows its record, or a change of what is remembered.
@@ -37,17 +40,17 @@ fn make<M: Automaton, S: Shelf, P: Policy>(
     s: &mut Searcher<'_, M, S, P>,
     call: &Call<'_, M::Symbol>,
     entries: &mut [Span],
-) -> Answer
+) -> Result<Answer, Refusal>
     ensures did { Ready M.Automaton S.Shelf P.Policy s.old → Did M.Automaton S.Shelf P.Policy s.old (request (length entries.old) call.now) s.new (reply entries.new result) }
     ensures behind { drop (written result) entries.new ≡ drop (written result) entries.old }
     ensures automaton { s.new.automaton ≡ s.old.automaton }
 {
     match call {
-        Call::Find(row, from) => s.find(row, *from),
-        Call::List(row, from, _) => s.list(row, *from, entries),
-        Call::Whole(row) => s.whole(row),
-        Call::Limit(limit) => s.limit(*limit),
-        Call::Clear => s.clear(),
+        Call::Find(row, from) => s.find(row, *from).map(Answer::Found),
+        Call::List(row, from, _) => s.list(row, *from, entries).map(Answer::Listed),
+        Call::Whole(row) => s.whole(row).map(Answer::Whole),
+        Call::Limit(limit) => s.limit(*limit).map(Answer::Dropped),
+        Call::Clear => Ok(Answer::Dropped(s.clear())),
     }
 }
 
@@ -58,7 +61,7 @@ pub fn perform<M: Automaton, S: Shelf, P: Policy>(
     s: &mut Searcher<'_, M, S, P>,
     calls: &[Call<'_, M::Symbol>],
     entries: &mut [Span],
-    answers: &mut [Answer],
+    answers: &mut [Result<Answer, Refusal>],
 ) -> usize
     ensures count { result ≡ min (length calls.now) (length answers.old) }
     ensures series { Ready M.Automaton S.Shelf P.Policy s.old → Series (subject M.Automaton s.old) (memory S.Shelf P.Policy s.old) (requests (length entries.old) (take result calls.now)) (replies entries.new (take result calls.now) (take result answers.new)) (memory S.Shelf P.Policy s.new) }
@@ -94,7 +97,7 @@ pub fn run<'p, M: Automaton, S: Shelf, P: Policy>(
     policy: P,
     calls: &[Call<'_, M::Symbol>],
     entries: &mut [Span],
-    answers: &mut [Answer],
+    answers: &mut [Result<Answer, Refusal>],
 ) -> Session<'p, M, S, P>
     ensures count { result.made ≡ min (length calls.now) (length answers.old) }
     ensures law { Lawful (M.Automaton.subject automaton.now) (S.Shelf.room shelf) (S.Shelf.most shelf) (requests (length entries.old) (take result.made calls.now)) (replies entries.new (take result.made calls.now) (take result.made answers.new)) (memory S.Shelf P.Policy result.searcher) }

@@ -142,7 +142,7 @@ impl<'p, M: Automaton, S: Shelf, P: Policy> Searcher<'p, M, S, P> {
                 place: None,
             },
             end: start,
-            counts: Counts::none(),
+            counts: Counts::default(),
         };
         while self.goes_on(row, scan) {
             scan = self.read_ahead(row, scan);

@@ -132,7 +132,7 @@ impl<'p, M: Automaton, S: Shelf, P: Policy> Searcher<'p, M, S, P> {
                 place: None,
             },
             start: None,
-            counts: Counts::none(),
+            counts: Counts::default(),
         };
         while scan.at > from {
             scan = self.read_back(row, scan);

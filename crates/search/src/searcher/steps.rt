@@ -117,10 +117,9 @@ fn plain(cursor: Cursor, gone: usize) -> Move
 {
     let counts = Counts {
         reads: 1,
-        known: 0,
-        built: 0,
         plain: 1,
         dropped: gone,
+        ..Counts::default()
     };
     Move { cursor, counts }
 }

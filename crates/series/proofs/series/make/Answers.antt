@@ -1,44 +1,22 @@
-use Rattle.std.proofs.Common.{length, sym, refl, subst}
-use Rattle.search.specs.Calling.{reply, Did}
-use Rattle.series.specs.Performed.{request}
+use Rattle.std.proofs.Common.{length, refl}
+use Rattle.law.specs.Calls.{Dropped as Drops}
+use Rattle.search.specs.Calling.{found, listed, told}
+use Rattle.series.specs.declared.answer.Answer.TheVariants.{Found, Listed, Whole, Dropped}
+use Rattle.series.proofs.Making.{made}
 use Rattle.series.proofs.series.make.Goals as goal
 
-pub returns-in-Find : goal.returns-in-Find
-returns-in-Find g c =
-    let s = c.args.s.now in
-    let entries = c.args.entries.now in
-    record {
-      did = λ ok. subst (λ y. Did g.M.Automaton g.S.Shelf g.P.Policy s (request (length entries) y) c.find.new.self (reply entries c.find.result)) (sym c.in-Find.is) (c.find.ensures.did entries ok);
-      behind = refl;
-      automaton = c.find.ensures.automaton;
-    }
+pub returns-in-Find-clause-did : goal.returns-in-Find-clause-did
+returns-in-Find-clause-did g c = λ ok.
+    made g.M.Automaton g.S.Shelf g.P.Policy c.args.s.now c.find.new.self (length c.args.entries.now) c.args.call.now _ found (λ x. Found x) c.args.entries.now c.find.result c.map.result (λ x. refl) c.in-Find.is c.map.ensures.cases (c.find.ensures.did ok)
 
-pub returns-in-Whole : goal.returns-in-Whole
-returns-in-Whole g c =
-    let s = c.args.s.now in
-    let entries = c.args.entries.now in
-    record {
-      did = λ ok. subst (λ y. Did g.M.Automaton g.S.Shelf g.P.Policy s (request (length entries) y) c.whole.new.self (reply entries c.whole.result)) (sym c.in-Whole.is) (c.whole.ensures.did entries ok);
-      behind = refl;
-      automaton = c.whole.ensures.automaton;
-    }
+pub returns-in-List-clause-did : goal.returns-in-List-clause-did
+returns-in-List-clause-did g c = λ ok.
+    made g.M.Automaton g.S.Shelf g.P.Policy c.args.s.now c.list.new.self (length c.args.entries.now) c.args.call.now _ (listed c.list.new.entries) (λ x. Listed x) c.list.new.entries c.list.result c.map-in-List.result (λ x. refl) c.in-List.is c.map-in-List.ensures.cases (c.list.ensures.did ok)
 
-pub returns-in-Limit : goal.returns-in-Limit
-returns-in-Limit g c =
-    let s = c.args.s.now in
-    let entries = c.args.entries.now in
-    record {
-      did = λ ok. subst (λ y. Did g.M.Automaton g.S.Shelf g.P.Policy s (request (length entries) y) c.limit.new.self (reply entries c.limit.result)) (sym c.in-Limit.is) (c.limit.ensures.did entries ok);
-      behind = refl;
-      automaton = c.limit.ensures.automaton;
-    }
+pub returns-in-Whole-clause-did : goal.returns-in-Whole-clause-did
+returns-in-Whole-clause-did g c = λ ok.
+    made g.M.Automaton g.S.Shelf g.P.Policy c.args.s.now c.whole.new.self (length c.args.entries.now) c.args.call.now _ told (λ x. Whole x) c.args.entries.now c.whole.result c.map-in-Whole.result (λ x. refl) c.in-Whole.is c.map-in-Whole.ensures.cases (c.whole.ensures.did ok)
 
-pub returns-in-Clear : goal.returns-in-Clear
-returns-in-Clear g c =
-    let s = c.args.s.now in
-    let entries = c.args.entries.now in
-    record {
-      did = λ ok. subst (λ y. Did g.M.Automaton g.S.Shelf g.P.Policy s (request (length entries) y) c.clear.new.self (reply entries c.clear.result)) (sym c.in-Clear.is) (c.clear.ensures.did entries ok);
-      behind = refl;
-      automaton = c.clear.ensures.automaton;
-    }
+pub returns-in-Limit-clause-did : goal.returns-in-Limit-clause-did
+returns-in-Limit-clause-did g c = λ ok.
+    made g.M.Automaton g.S.Shelf g.P.Policy c.args.s.now c.limit.new.self (length c.args.entries.now) c.args.call.now _ (λ x. Drops x) (λ x. Dropped x) c.args.entries.now c.limit.result c.map-in-Limit.result (λ x. refl) c.in-Limit.is c.map-in-Limit.ensures.cases (c.limit.ensures.did ok)

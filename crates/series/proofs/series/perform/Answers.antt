@@ -4,9 +4,9 @@ use Rattle.std.proofs.lemmas.List.{drop-set-lt, drop-drop}
 use Rattle.std.proofs.lemmas.Slice.{overwrites, drop-put_mid}
 use Rattle.theory.specs.declared.Span.{Span}
 use Rattle.law.specs.Calls.{Series}
-use Rattle.search.specs.declared.answer.Answer.{Answer}
-use Rattle.search.specs.Calling.{reply, written, Did}
+use Rattle.search.specs.Calling.{Did}
 use Rattle.search.specs.Remembered.{memory, subject}
+use Rattle.series.specs.Answers.{Outcome, reply, written}
 use Rattle.series.specs.Performed.{portion, request, requests, replies, each}
 use Rattle.series.proofs.Runs.{portion_le, requests_more, taken_more, each_more, each_same, series_next, continues}
 use Rattle.series.proofs.series.perform.Goals as goal
@@ -30,10 +30,10 @@ loop-i-preserved g c =
     let long : length part ≡ n = search rules in
     let after : length (put_mid used k pool part) ≡ N = search (rules, overwrites) in
     let a = c.make.result in
-    let f : List Span → Answer → List Span = λ xs b. drop (written b) xs in
+    let f : List Span → Outcome → List Span = λ xs b. drop (written b) xs in
     let first : List Span = c.args.entries.now in
     let cs = take i c.args.calls.now in
-    let rs : List Answer = take i c.loop-i.answers in
+    let rs : List Outcome = take i c.loop-i.answers in
     let kk : k ≡ n = omega arith in
     let same : f part a ≡ f (take n (drop used first)) a = e.behind ∙ ap (λ x. drop (written a) (take x (drop used pool))) kk ∙ ap (λ x. drop (written a) (take n x)) v.4 in
     let hc : i < length c.args.calls.now = search rules in

@@ -2,21 +2,22 @@ use Rattle.std.proofs.Common.{◌+◌, ◌-◌, ◌*◌, ◌<◌, ◌≤◌, len
 use Rattle.collector.specs.Pushing.{held, size}
 use Rattle.theory.specs.declared.Span.{Span}
 use Rattle.search.specs.Remembered.{memory}
-use Rattle.search.specs.Scanning.{Listed}
-use Rattle.search.proofs.Turns.{bounded_none, bounded_plus, bounded_more}
+use Rattle.search.specs.Scanning.{Collected}
+use Rattle.search.proofs.Turns.{bounded_none, no_counts, bounded_plus, bounded_more}
 use Rattle.search.proofs.Listings.{listing_begun, listing_next, listed_none, listed_full, pushed_left, pushed_held, pushed_filled, full_left, full_held, full_filled, take_none}
 use Rattle.search.proofs.searcher.Searcher.collect.Goals as goal
 
 pub loop-span-init : goal.loop-span-init
 loop-span-init g c =
-    let spans = c.args.spans.now in (
+    let spans = c.args.spans.now in
+    let none = no_counts c.default-counts.result c.default-counts.ensures in (
       omega arith,
       c.requires.from,
-      bounded_none _ c.none-counts.result c.none-counts.ensures,
+      bounded_none _ c.default-counts.result none,
       record { within = omega (arith, c.requires.fresh); size = refl; behind = refl; lender = refl },
       refl,
-      λ ok. listing_begun g.M.Automaton g.S.Shelf g.P.Policy c.args.self.now c.args.row.now (size spans) c.args.from (held spans) (size spans - spans.used) c.none-counts.result
-          (ap (λ n. take n spans.entries.now) c.requires.fresh ∙ take_none spans.entries.now) (omega (arith, c.requires.fresh)) c.none-counts.ensures ok,
+      λ ok. listing_begun g.M.Automaton g.S.Shelf g.P.Policy c.args.self.now c.args.row.now (size spans) c.args.from (held spans) (size spans - spans.used) c.default-counts.result
+          (ap (λ n. take n spans.entries.now) c.requires.fresh ∙ take_none spans.entries.now) (omega (arith, c.requires.fresh)) none ok,
     )
 
 pub loop-span-preserved : goal.loop-span-preserved
@@ -24,7 +25,7 @@ loop-span-preserved g c =
     let v = c.loop-span.invariant in
     let spans = c.loop-span.spans in
     let x = c.in-Some.span in
-    let e = c.locate-finding.ensures in
+    let e = c.locate-found.ensures in
     let from = c.args.from in
     let at = c.loop-span.at in
     let P : Option Span → Type 0 = λ o. IfSome o (λ (y : Span). (at < y.end) × (y.end ≤ length c.args.row.now)) in
@@ -34,13 +35,13 @@ loop-span-preserved g c =
       omega (arith, v.0, i.0),
       i.1,
       bounded_more (2097152 * (at - from) + 2097152) (2097152 * (x.end - from)) c.plus-counts.result more
-          (bounded_plus (2097152 * (at - from)) 2097152 (2097152 * (at - from) + 2097152) c.loop-span.counts c.locate-finding.result.counts c.plus-counts.result refl v.2 e.small c.plus-counts.ensures),
+          (bounded_plus (2097152 * (at - from)) 2097152 (2097152 * (at - from) + 2097152) c.loop-span.counts c.locate-found.result.counts c.plus-counts.result refl v.2 e.small c.plus-counts.ensures),
       pushed_filled c.args.spans.now spans c.push.new.self x v.3 p,
       e.automaton ∙ v.4,
       λ ok.
           let l = v.5 ok in
-          listing_next g.M.Automaton g.S.Shelf g.P.Policy c.loop-span.self c.locate-finding.new.self (memory g.S.Shelf g.P.Policy c.args.self.now) c.args.row.now (size c.args.spans.now) from
-          (held spans) (held c.push.new.self) (size spans - spans.used) (size c.push.new.self - c.push.new.self.used) at x c.loop-span.counts c.plus-counts.result c.locate-finding.result
+          listing_next g.M.Automaton g.S.Shelf g.P.Policy c.loop-span.self c.locate-found.new.self (memory g.S.Shelf g.P.Policy c.args.self.now) c.args.row.now (size c.args.spans.now) from
+          (held spans) (held c.push.new.self) (size spans - spans.used) (size c.push.new.self - c.push.new.self.used) at x c.loop-span.counts c.plus-counts.result c.locate-found.result
           e.automaton c.in-Some.is (pushed_left spans c.push.new.self x v.3.within p) (pushed_held spans c.push.new.self x p) c.plus-counts.ensures (e.located l.ready) l,
     )
 
@@ -48,13 +49,14 @@ pub returns-in_default : goal.returns-in_default
 returns-in_default g c =
     let v = c.loop-span.invariant in
     let spans = c.loop-span.spans in
-    let e = c.locate-finding.ensures in
+    let e = c.locate-found.ensures in
     record {
       listed = λ ok.
           let l = v.5 ok in
-          listed_none g.M.Automaton g.S.Shelf g.P.Policy c.loop-span.self c.locate-finding.new.self (memory g.S.Shelf g.P.Policy c.args.self.now) c.args.row.now (size c.args.spans.now) c.args.from
-          (held spans) (size spans - spans.used) c.loop-span.at c.loop-span.counts c.locate-finding.result _
+          listed_none g.M.Automaton g.S.Shelf g.P.Policy c.loop-span.self c.locate-found.new.self (memory g.S.Shelf g.P.Policy c.args.self.now) c.args.row.now (size c.args.spans.now) c.args.from
+          (held spans) (size spans - spans.used) c.loop-span.at c.loop-span.counts c.locate-found.result _
           e.automaton c.in_default.is refl c.plus-counts.ensures (e.located l.ready) l;
+      written = c.used.ensures;
       filled = v.3;
       automaton = e.automaton ∙ v.4;
     }
@@ -64,17 +66,18 @@ returns-then-not-push g c =
     let v = c.loop-span.invariant in
     let spans = c.loop-span.spans in
     let x = c.in-Some.span in
-    let e = c.locate-finding.ensures in
+    let e = c.locate-found.ensures in
     let p = c.if-not-push.ensures in
     let s = c.args.self.now in
-    let n = c.locate-finding.new.self in
+    let n = c.locate-found.new.self in
     record {
       listed = λ ok.
           let l = v.5 ok in
-          subst (λ y. Listed g.M.Automaton g.S.Shelf g.P.Policy (memory g.S.Shelf g.P.Policy s) c.args.row.now (size c.args.spans.now) c.args.from y (record { rest = Some c.loop-span.at; counts = c.plus-counts.result }) n) (sym (full_held spans c.push.new.self x p))
+          subst (λ y. Collected g.M.Automaton g.S.Shelf g.P.Policy (memory g.S.Shelf g.P.Policy s) c.args.row.now (size c.args.spans.now) c.args.from y (record { written = c.used-then-not-push.result; rest = Some c.loop-span.at; counts = c.plus-counts.result }) n) (sym (full_held spans c.push.new.self x p))
           (listed_full g.M.Automaton g.S.Shelf g.P.Policy c.loop-span.self n (memory g.S.Shelf g.P.Policy s) c.args.row.now (size c.args.spans.now) c.args.from
-          (held spans) (size spans - spans.used) c.loop-span.at x c.loop-span.counts c.locate-finding.result _
+          (held spans) (size spans - spans.used) c.loop-span.at x c.loop-span.counts c.locate-found.result _
           e.automaton c.in-Some.is (full_left spans c.push.new.self x p) refl c.plus-counts.ensures (e.located l.ready) l);
+      written = c.used-then-not-push.ensures;
       filled = full_filled c.args.spans.now spans c.push.new.self x v.3 p;
       automaton = e.automaton ∙ v.4;
     }

@@ -2,15 +2,16 @@ use Rattle.std.proofs.Common.{◌<◌, length, sym, refl, ◌∙◌, arith}
 use Rattle.search.specs.Remembered.{memory}
 use Rattle.search.proofs.Views.{and_lt, and_not}
 use Rattle.search.proofs.Scans.{aheaded_begun, reached}
-use Rattle.search.proofs.Turns.{bounded_none}
+use Rattle.search.proofs.Turns.{bounded_none, no_counts}
 use Rattle.search.proofs.searcher.Searcher.scan_ahead.Goals as goal
 
 pub loop-self-init : goal.loop-self-init
-loop-self-init g c = (
-  record { at = c.requires.from; end = c.requires.from; counts = bounded_none _ c.none.result c.none.ensures },
-  refl,
-  λ ok. aheaded_begun g.M.Automaton g.S.Shelf g.P.Policy g.met.M.Automaton.proper c.args.self.now c.args.row.now c.args.start _ ok refl refl c.begin.ensures refl c.none.ensures,
-)
+loop-self-init g c =
+    let none = no_counts c.default.result c.default.ensures in (
+      record { at = c.requires.from; end = c.requires.from; counts = bounded_none _ c.default.result none },
+      refl,
+      λ ok. aheaded_begun g.M.Automaton g.S.Shelf g.P.Policy g.met.M.Automaton.proper c.args.self.now c.args.row.now c.args.start _ ok refl refl c.begin.ensures refl none,
+    )
 
 pub loop-self-preserved : goal.loop-self-preserved
 loop-self-preserved g c =

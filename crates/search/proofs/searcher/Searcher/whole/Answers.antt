@@ -1,50 +1,37 @@
-use Rattle.std.proofs.Common.{sym, ◌∙◌, arith}
-use Rattle.search.specs.Remembered.{memory, subject}
-use Rattle.search.proofs.Doing.{did_refused, did_whole, by_words}
-use Rattle.search.proofs.Ends.{whole_long, whole_is, whole_none, short}
+use Rattle.std.proofs.Common.{◌≡◌, ◌<◌, length, sym, refl, ◌∙◌, arith}
+use Rattle.std.proofs.lemmas.Bool.{eqb-true, eqb-false}
+use Rattle.std.proofs.lemmas.Result.{err_from_is_err_and}
 use Rattle.law.proofs.Maps.{some_not}
+use Rattle.search.specs.Remembered.{subject, Ready}
+use Rattle.search.proofs.Doing.{did_refused, did_whole, by_words}
+use Rattle.search.proofs.Ends.{whole_is, whole_none, short}
+use Rattle.theory.specs.Scans.{whole}
 use Rattle.search.proofs.searcher.Searcher.whole.Goals as goal
+use Rattle.search.proofs.searcher.Searcher.whole.Goals.{then-is_empty, else-is_empty}
 
-pub returns-then-row-gt-LONGEST-clause-did : goal.returns-then-row-gt-LONGEST-clause-did
-returns-then-row-gt-LONGEST-clause-did g c =
+pub returns-in_err-check_length : goal.returns-in_err-check_length
+returns-in_err-check_length g c =
     let s = c.args.self.now in
-    λ entries ok. did_refused g.M.Automaton g.S.Shelf g.P.Policy g.met.M.Automaton.proper s _ _ entries c.refused.result c.refused.ensures ok (whole_long (subject g.M.Automaton s) (memory g.S.Shelf g.P.Policy s) c.args.row.now c.if-row-gt-LONGEST.true)
+    let p = err_from_is_err_and c.from_residual.result c.from_residual.ensures.1 in
+    let did = λ (ok : Ready g.M.Automaton g.S.Shelf g.P.Policy s). did_refused g.M.Automaton g.S.Shelf g.P.Policy g.met.M.Automaton.proper s _ _ c.in_err-check_length.ensures.refused ok in
+    rw (p.1, p.2) (record { did = did; words = λ ok. by_words g.M.Automaton g.S.Shelf g.P.Policy g.met.M.Automaton.proper s _ _ _ ok (did ok); idle = λ _ _. refl; automaton = refl })
 
-pub returns-then-row-gt-LONGEST-clause-words : goal.returns-then-row-gt-LONGEST-clause-words
-returns-then-row-gt-LONGEST-clause-words g c = λ entries ok. by_words g.M.Automaton g.S.Shelf g.P.Policy g.met.M.Automaton.proper c.args.self.now _ _ _ ok (returns-then-row-gt-LONGEST-clause-did g c entries ok)
-
-pub returns-then-row-eq0-clause-did : goal.returns-then-row-eq0-clause-did
-returns-then-row-eq0-clause-did g c =
-    let a = c.scan_ahead-ahead.ensures in
+pub returns : goal.returns
+returns g c =
+    let s = c.args.self.now in
     let n = c.scan_ahead-ahead.new.self in
     let r = c.args.row.now in
-    λ entries ok. did_whole g.M.Automaton g.S.Shelf g.P.Policy g.met.M.Automaton.proper c.args.self.now n r c.nullable.result c.scan_ahead-ahead.result a.automaton c.if-row-gt-LONGEST.false
-    (c.nullable.ensures ∙ whole_none (subject g.M.Automaton n) r c.if-row-eq0.true) (a.reached ok)
-
-pub returns-then-row-eq0-clause-words : goal.returns-then-row-eq0-clause-words
-returns-then-row-eq0-clause-words g c = λ entries ok. by_words g.M.Automaton g.S.Shelf g.P.Policy g.met.M.Automaton.proper c.args.self.now _ _ _ ok (returns-then-row-eq0-clause-did g c entries ok)
-
-pub returns-then-row-eq0-clause-idle : goal.returns-then-row-eq0-clause-idle
-returns-then-row-eq0-clause-idle g c =
     let a = c.scan_ahead-ahead.ensures in
-    let n = c.scan_ahead-ahead.new.self in
-    let r = c.args.row.now in
-    λ q e. absurd (some_not q (sym (short (subject g.M.Automaton c.args.self.now) c.args.row.now c.if-row-gt-LONGEST.false) ∙ e))
-
-pub returns-clause-did : goal.returns-clause-did
-returns-clause-did g c =
-    let a = c.scan_ahead-ahead.ensures in
-    let n = c.scan_ahead-ahead.new.self in
-    let r = c.args.row.now in
-    λ entries ok. did_whole g.M.Automaton g.S.Shelf g.P.Policy g.met.M.Automaton.proper c.args.self.now n r _ c.scan_ahead-ahead.result a.automaton c.if-row-gt-LONGEST.false
-    (whole_is (subject g.M.Automaton n) r c.scan_ahead-ahead.result.end (omega arith) (a.reached ok).end_is) (a.reached ok)
-
-pub returns-clause-words : goal.returns-clause-words
-returns-clause-words g c = λ entries ok. by_words g.M.Automaton g.S.Shelf g.P.Policy g.met.M.Automaton.proper c.args.self.now _ _ _ ok (returns-clause-did g c entries ok)
-
-pub returns-clause-idle : goal.returns-clause-idle
-returns-clause-idle g c =
-    let a = c.scan_ahead-ahead.ensures in
-    let n = c.scan_ahead-ahead.new.self in
-    let r = c.args.row.now in
-    λ q e. absurd (some_not q (sym (short (subject g.M.Automaton c.args.self.now) c.args.row.now c.if-row-gt-LONGEST.false) ∙ e))
+    let X = subject g.M.Automaton n in
+    let i = c.in_ok-check_length.ensures.short in
+    let is : Ready g.M.Automaton g.S.Shelf g.P.Policy s → c.if-is_empty.is_word ≡ whole X.machine r = λ ok. elim c.if-is_empty.branch [
+      | then-is_empty w ↦ w.is_word-is ∙ w.nullable-is_word.ensures ∙ whole_none X r (eqb-true (length r) 0 (sym w.if-is_empty.ensures))
+      | else-is_empty w ↦ w.is_word-is ∙ whole_is X r c.scan_ahead-ahead.result.end (omega (arith, eqb-false (length r) 0 (sym w.if-is_empty.ensures))) (a.reached ok).end_is
+    ] in
+    let did = λ (ok : Ready g.M.Automaton g.S.Shelf g.P.Policy s). did_whole g.M.Automaton g.S.Shelf g.P.Policy g.met.M.Automaton.proper s n r _ c.scan_ahead-ahead.result a.automaton i (is ok) (a.reached ok) in
+    record {
+      did = did;
+      words = λ ok. by_words g.M.Automaton g.S.Shelf g.P.Policy g.met.M.Automaton.proper s _ _ _ ok (did ok);
+      idle = λ q h. absurd (some_not q (sym (short (subject g.M.Automaton s) r i) ∙ h));
+      automaton = a.automaton;
+    }
