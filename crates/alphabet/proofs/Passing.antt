@@ -2,26 +2,24 @@
 use Rattle.std.proofs.Common.{◌≡◌, ℕ, ◌+◌, ◌-◌, ◌<◌, ◌≤◌, Bool, true, false, ◌&&◌, ◌||◌, eqb, ltb, List, length, get_or, sym, refl, ap, ◌∙◌, ⊎_elim, arith}
 use mathlib.Core.Path.{fun_ext}
 use Rattle.std.proofs.lemmas.Bool.{cases_order, cases_lt, lt-ltb, le-ltb, eq-eqb, ne_eqb, and_right}
+use Rattle.sets.specs.BitSets.{set_of_bits}
 use Rattle.sets.specs.Members.{Members, none, plus, shared, below}
-use Rattle.sets.specs.Positions.{width}
-use Rattle.sets.specs.declared.positions.PositionSet.{PositionSet}
+use Rattle.sets.specs.Positions.{width, PositionSet}
 use Rattle.alphabet.specs.Asked.{asked}
 use Rattle.alphabet.proofs.Asking.{asked_zero, asked_past, asked_at}
 
 -- the set that a table's row is where it has none
 abbrev pub blank : PositionSet
-blank = record { bits = 0 }
+blank = set_of_bits 0
 
 -- those below 64 are all that a set can hold
 pub all_below : (f : Members) (n : ℕ) → n ≡ 64 → shared (below n) f ≡ shared (below width) f
-unfolding width
 all_below f n e = ap (λ m. shared (below m) f) e
 
 pub none_below : (f : Members) → none ≡ shared (below 0) f
 none_below f = fun_ext (λ k. sym (ap (λ x. x && f k) (le-ltb k 0 (omega arith))))
 
 in_width : (n : ℕ) → n < 64 → ltb n width ≡ true
-unfolding width
 in_width n l = lt-ltb n 64 l
 
 one_more : (f : Members) (n : ℕ) → n < 64 → f n ≡ true → plus width (shared (below n) f) n ≡ shared (below (n + 1)) f
@@ -75,12 +73,10 @@ past f ts i k e few =
     (cases_lt k (i + 1))
 
 pub gather_all : {A : Type 0} (f : A → Bool) (ts : List A) (i : ℕ) → i ≡ length ts → i ≤ 63 → shared (below (i + 1)) (asked f ts) ≡ shared (below width) (asked f ts)
-unfolding width
 gather_all f ts i e few = fun_ext (λ k. past f ts i k e few)
 
 -- a number that the set cannot hold is none of a test
 pub held : (f : Members) (n k : ℕ) → n ≤ 63 → ((j : ℕ) → n < j → f j ≡ false) → shared (below width) f k ≡ f k
-unfolding width
 held f n k few h =
     ⊎_elim (λ (l : k < 64). ap (λ x. x && f k) (lt-ltb k 64 l)) (λ (l : 64 ≤ k). and_right (ltb k 64) (f k) (h k (omega arith)) ∙ sym (h k (omega arith))) (cases_lt k 64)
 

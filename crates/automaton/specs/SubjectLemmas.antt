@@ -3,7 +3,8 @@ use Rattle.std.proofs.Common.{◌≡◌, ℕ, ◌<◌, ◌≤◌, Bool, true, sy
 use Rattle.alphabet.specs.declared.Alphabet.{Ghosts as AlphabetMeaning}
 use Rattle.sealed.specs.declared.sealing.Sealed.{Sealed}
 use Rattle.sealed.specs.Plans.{codes_of, tree_of, positions_of}
-use Rattle.sets.specs.declared.positions.PositionSet.{PositionSet}
+use Rattle.sets.specs.BitSets.{set_of_bits}
+use Rattle.sets.specs.Positions.{PositionSet}
 use Rattle.sets.proofs.Known.{alike_is}
 use Rattle.theory.specs.declared.Direction.{Direction}
 use Rattle.theory.specs.declared.Direction.TheVariants.{Ahead, Back}
@@ -17,8 +18,8 @@ use Rattle.theory.proofs.Answers.{numbered}
 use Rattle.law.specs.Subject.{Proper}
 use Rattle.automaton.specs.Subjects.{on_sets, sealed_subject}
 
-pub set_of : (a b : ℕ) → a ≡ b → ◌≡◌ {A = PositionSet} (record { bits = a }) (record { bits = b })
-set_of a b e = ap (λ (x : ℕ). record { bits = x }) e
+pub set_of : (a b : ℕ) → a ≡ b → ◌≡◌ {A = PositionSet} (set_of_bits a) (set_of_bits b)
+set_of a b e = ap (λ (x : ℕ). set_of_bits x) e
 
 lifted : {Sym : Type 0} (m : Machine Sym ℕ) (d : Direction) (S : PositionSet) (a b : Sym) → rule m d S.bits a ≡ rule m d S.bits b → rule (on_sets m) d S a ≡ rule (on_sets m) d S b
 lifted m Ahead S a b e = set_of _ _ e

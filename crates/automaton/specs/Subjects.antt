@@ -2,8 +2,8 @@
 use Rattle.alphabet.specs.declared.Alphabet.{Ghosts as AlphabetMeaning}
 use Rattle.sealed.specs.declared.sealing.Sealed.{Sealed}
 use Rattle.sealed.specs.Plans.{tree_of, positions_of}
-use Rattle.sets.specs.Positions.{alike}
-use Rattle.sets.specs.declared.positions.PositionSet.{PositionSet}
+use Rattle.sets.specs.BitSets.{set_of_bits}
+use Rattle.sets.specs.Positions.{alike, PositionSet}
 use Rattle.theory.specs.Machine.{Machine}
 use Rattle.theory.specs.Masks.{masks}
 use Rattle.law.specs.Subject.{Subject}
@@ -14,9 +14,9 @@ abbrev pub on_sets : {Sym : Type 0} → Machine Sym ℕ → Machine Sym Position
 on_sets m =
     record {
       has = λ S. m.has S.bits;
-      begin = record { bits = m.begin };
-      ahead = λ S a. record { bits = m.ahead S.bits a };
-      back = λ S a. record { bits = m.back S.bits a };
+      begin = set_of_bits m.begin;
+      ahead = λ S a. set_of_bits (m.ahead S.bits a);
+      back = λ S a. set_of_bits (m.back S.bits a);
       first = λ S. m.first S.bits;
       last = λ S. m.last S.bits;
       empty = λ S. m.empty S.bits;

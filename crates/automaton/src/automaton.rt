@@ -1,5 +1,5 @@
 ghost use Rattle.std.specs.Prelude.{◌≡◌, true};
-ghost use Rattle.sets.specs.declared.positions.PositionSet.{PositionSet};
+ghost use Rattle.sets.specs.Positions.{PositionSet};
 ghost use Rattle.law.specs.Subject.{Subject, Proper, leads};
 
 use sets::PositionSet;

@@ -5,8 +5,7 @@ use mir.Val.{bool_byte}
 use Rattle.std.proofs.lemmas.Bool.{and_parts, and_from, cases_Bool, eq-eqb, ne_eqb}
 use Rattle.std.proofs.lemmas.List.Sums.{fold_more}
 use Rattle.std.proofs.lemmas.Nat.{pow-add}
-use Rattle.sets.specs.Positions.{holds}
-use Rattle.sets.specs.declared.positions.PositionSet.{PositionSet}
+use Rattle.sets.specs.Positions.{holds, PositionSet}
 use Rattle.symbols.specs.declared.ByteTest.{ByteTest}
 use Rattle.symbols.specs.Tests.{passes_byte}
 use Rattle.byte_classes.specs.Numbering.{how_many, smallest, leads, member}

@@ -1,5 +1,6 @@
 -- What the tables of the classes of bytes hold, and how they are made.
 use Rattle.std.specs.Prelude.{◌≡◌, ℕ, ◌+◌, ◌*◌, ◌<◌, ◌≤◌, cond, List, fold, ◌≢◌, slice_index, slice_index_or}
+use Rattle.sets.specs.BitSets.{set_of_bits}
 use Rattle.sets.specs.Members.{Members, shared, below}
 use Rattle.sets.specs.Positions.{holds, width}
 use Rattle.symbols.specs.declared.ByteTest.{ByteTest}
@@ -23,7 +24,7 @@ Tabled ts table = (table.classes ≡ byte_classes ts) × ((b : ℕ) → b < 256 
 
 -- it has the tests that each class passes
 abbrev pub Told : List ByteTest → ByteTable → Type 0
-Told ts table = (c k : ℕ) → c < byte_classes ts → holds (slice_index_or table.passing c (record { bits = 0 })) k ≡ passed_byte ts (member (alike ts) 256 c) k
+Told ts table = (c k : ℕ) → c < byte_classes ts → holds (slice_index_or table.passing c (set_of_bits 0)) k ≡ passed_byte ts (member (alike ts) 256 c) k
 
 -- the answers of the tests to a byte, as the digits of a number to the base 2
 abbrev pub row : List ByteTest → ℕ → ℕ

@@ -1,5 +1,6 @@
 -- What the tables of the classes of events hold.
 use Rattle.std.specs.Prelude.{◌≡◌, ℕ, ◌+◌, ◌*◌, ◌<◌, ◌≤◌, List, length, take, slice_index, slice_index_or}
+use Rattle.sets.specs.BitSets.{set_of_bits}
 use Rattle.sets.specs.Members.{Members, shared, below}
 use Rattle.sets.specs.Positions.{holds, width}
 use Rattle.symbols.specs.declared.EventTest.{EventTest}
@@ -27,4 +28,4 @@ CutRight ts table =
 
 -- it has the tests that each class passes
 abbrev pub CutTold : List EventTest → CutTable → Type 0
-CutTold ts table = (c k : ℕ) → c < event_classes ts → holds (slice_index_or table.passing c (record { bits = 0 })) k ≡ passed_code ts (lowest_code (cuts ts) c) k
+CutTold ts table = (c k : ℕ) → c < event_classes ts → holds (slice_index_or table.passing c (set_of_bits 0)) k ≡ passed_code ts (lowest_code (cuts ts) c) k

@@ -1,5 +1,6 @@
 // The cuts in ascending order, made from the tests.
 ghost use Rattle.std.specs.Prelude.{◌≡◌, ℕ, ◌+◌, ◌*◌, ◌<◌, ◌≤◌, length, take, slice_index, slice_index_or};
+ghost use Rattle.sets.specs.BitSets.{set_of_bits};
 ghost use Rattle.sets.specs.Positions.{holds};
 ghost use Rattle.event_classes.specs.Cuts.{placed, cut, cuts, at_or_below, lowest_code, Ascending};
 ghost use Rattle.event_classes.specs.Tables.{passed_code, CutRight, CutTold};
@@ -122,7 +123,7 @@ fn passed_by(tests: &[EventTest], code: u32) -> PositionSet
 fn passed(tests: &[EventTest], cuts: &[u32]) -> [PositionSet; 127]
     requires few { length tests.now ≤ 63 }
     requires short { length cuts.now ≤ 126 }
-    ensures { (c k : ℕ) → c < length cuts.now + 1 → holds (slice_index_or result c (record { bits = 0 })) k ≡ passed_code tests.now (lowest_code cuts.now c) k }
+    ensures { (c k : ℕ) → c < length cuts.now + 1 → holds (slice_index_or result c (set_of_bits 0)) k ≡ passed_code tests.now (lowest_code cuts.now c) k }
 {
     let mut passing = [passed_by(tests, 0); 127];
     for i in 0..cuts.len() {

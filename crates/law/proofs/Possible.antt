@@ -3,7 +3,7 @@ use Rattle.std.proofs.Common.{◌≡◌, ℕ, zero, suc, ◌-◌, ◌*◌, ◌/�
 use Rattle.std.proofs.lemmas.Bool.{cases_Bool, cases_eq, both_ways, eqb-true, eq-eqb, ltb-true, ltb-false}
 use Rattle.refusal.specs.declared.Refusal.{Refusal}
 use Rattle.sets.specs.Members.{Members}
-use Rattle.sets.specs.Places.{LowestFree}
+use Rattle.sets.specs.Lowest.{LowestFree}
 use Rattle.memory.specs.Steps.{Map, without, unless, size, one}
 use Rattle.memory.specs.Steps as maps
 use Rattle.memory.specs.Live.{May}

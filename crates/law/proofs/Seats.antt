@@ -2,7 +2,7 @@
 use Rattle.std.proofs.Common.{◌≡◌, ℕ, ◌+◌, ◌<◌, ◌≤◌, Bool, true, false, cond, not, ◌&&◌, ◌||◌, eqb, ◌⊎◌, Some, None, Option, sym, refl, ap, ◌∙◌, subst, inl, inr, ⊎_elim, arith}
 use Rattle.std.proofs.lemmas.Bool.{cases_Bool, cases_eq, eq-eqb, ne_eqb, both_ways, lt-ltb}
 use Rattle.sets.specs.Members.{Members}
-use Rattle.sets.specs.Places.{LowestFree}
+use Rattle.sets.specs.Lowest.{LowestFree}
 use Rattle.memory.specs.Live.{May}
 use Rattle.theory.specs.Reads.{State}
 use Rattle.law.specs.Subject.{Subject}

@@ -1,7 +1,7 @@
 -- What a searcher remembers, whatever its shelf and its policy are; how a set is seated, and how a step is noted.
 use Rattle.std.specs.Prelude.{◌≡◌, ℕ, ◌+◌, ◌<◌, ◌≤◌, min, Bool, true, false, cond, Some, None, Option, ◌==◌, ◌≢◌}
 use Rattle.sets.specs.Members.{Members, none, plus, less, tally}
-use Rattle.sets.specs.Places.{LowestFree}
+use Rattle.sets.specs.Lowest.{LowestFree}
 use Rattle.memory.specs.Steps.{Map, nothing, noted, without, size}
 use Rattle.memory.specs.Live.{May}
 use Rattle.theory.specs.declared.Direction.{Direction}

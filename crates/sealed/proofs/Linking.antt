@@ -4,10 +4,10 @@ use mathlib.Core.Path.{fun_ext}
 use mathlib.Core.Bool.{or-false}
 use Rattle.std.proofs.lemmas.Bool.{cases_lt, lt-ltb, and_right}
 use Rattle.std.proofs.lemmas.List.{get_or-replicate, get_or_past, length-replicate}
+use Rattle.sets.specs.BitSets.{members}
 use Rattle.sets.specs.Members.{Members, none, either, shared, below}
-use Rattle.sets.specs.Positions.{holds, width}
-use Rattle.sets.specs.declared.positions.PositionSet.{PositionSet}
-use Rattle.sets.proofs.Known.{holds_high}
+use Rattle.sets.specs.Positions.{holds, width, PositionSet}
+use Rattle.sets.proofs.Known.{members_high}
 use Rattle.sets.proofs.Sets.{zero_mask}
 use Rattle.theory.specs.Seal.{link}
 use Rattle.sealed.specs.Tables.{blank, entry, column}
@@ -45,8 +45,7 @@ upto_no last first old new p h u =
     }
 
 wide : (s : PositionSet) (k : ℕ) → 64 ≤ k → holds s k ≡ false
-unfolding width
-wide s k l = holds_high s k l
+wide s k l = members_high s k l
 
 pub upto_all : (last : PositionSet) (first : Members) (old new : List PositionSet) (p : ℕ) → p ≡ 64 → Upto (holds last) first old new p → entry new ≡ link (holds last) first (entry old)
 upto_all last first old new p e u =
@@ -56,7 +55,7 @@ upto_all last first old new p e u =
     (cases_lt k 64))
 
 pub blank_none : (k : ℕ) → holds blank k ≡ false
-unfolding holds
+unfolding members
 blank_none k = ap (λ f. f k) (zero_mask 64)
 
 -- a row that is not there is empty

@@ -12,7 +12,6 @@ pub same_part : (n n' : Bool) (f f' g g' : ℕ → Bool) → n ≡ n' → f ≡ 
 same_part n n' f f' g g' e d h = λ i. record { nullable = e i; first = d i; last = h i }
 
 in_width : (p : ℕ) → p < 64 → ltb p width ≡ true
-unfolding width
 in_width p l = lt-ltb p 64 l
 
 -- the set of one position

@@ -4,8 +4,7 @@ use Rattle.std.proofs.lemmas.List.{at_drop_more, at_drop_all, length-map, length
 use Rattle.std.proofs.lemmas.List.Sums.{sum_by-append}
 use Rattle.std.proofs.lemmas.Bool.{cases_eq, eq-eqb, ne_eqb, cond-true, cond-false}
 use Rattle.sets.specs.Members.{none}
-use Rattle.sets.specs.Positions.{holds}
-use Rattle.sets.specs.declared.positions.PositionSet.{PositionSet}
+use Rattle.sets.specs.Positions.{holds, PositionSet}
 use Rattle.theory.specs.Positions.{Positions, positions}
 use Rattle.pattern.specs.declared.Code.{Code}
 use Rattle.pattern.specs.Codes.{tree}

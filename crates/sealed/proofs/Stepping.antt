@@ -7,15 +7,14 @@ use Rattle.pattern.specs.declared.Code.{Code}
 use Rattle.pattern.specs.Tree.{Tree}
 use Rattle.pattern.specs.Codes.{tree}
 use Rattle.sets.specs.Members.{Members, plus, shared, below, Meet}
-use Rattle.sets.specs.Positions.{holds, width}
-use Rattle.sets.specs.declared.positions.PositionSet.{PositionSet}
+use Rattle.sets.specs.Positions.{holds, width, PositionSet}
 use Rattle.theory.specs.Positions.{Positions, positions, FromOne, follow}
 use Rattle.theory.specs.Masks.{some, ahead_set, back_set, common}
 use Rattle.theory.proofs.Masks.{some_is}
 use Rattle.theory.proofs.Places.{follow_is}
 use Rattle.theory.proofs.Numbers.{follow_in, no_zero}
 use Rattle.theory.proofs.Answers.{numbered}
-use Rattle.sets.proofs.Known.{holds_low, holds_high}
+use Rattle.sets.proofs.Known.{members_low, members_high}
 use Rattle.sealed.specs.declared.plan.Plan.{Plan}
 use Rattle.sealed.specs.Tables.{blank, entry, following, preceding}
 use Rattle.sealed.specs.Plans.{is_member, codes_of, tree_of, positions_of}
@@ -50,7 +49,6 @@ and_false true y e = e
 and_false false y e = refl
 
 wide : 0 < width
-unfolding width
 wide = omega arith
 
 ahead_split : (o : Option Tree) → FromOne o → (S : Members) (q : ℕ) → some width (λ p. S p && following (positions o) p q) ≡ (S 0 && (positions o).first q || some width (λ p. S p && (positions o).follow p q))
@@ -95,12 +93,12 @@ nowhere f h = some_none f 0 width (omega arith) (λ k _ _. h k)
 ahead_nowhere : (plan : Plan) (S : Members) (q : ℕ) → width ≤ q → (S 0 && (positions_of plan).first q || some width (λ p. S p && (positions_of plan).follow p q)) ≡ false
 ahead_nowhere plan S q l =
     sym (ahead_split (tree_of plan) (numbered (codes_of plan)) S q)
-    ∙ nowhere (λ p. S p && following (positions_of plan) p q) (λ p. and_false (S p) (following (positions_of plan) p q) (sym (plan.right.1 p q) ∙ holds_high (get_or plan.tables.next p blank) q l))
+    ∙ nowhere (λ p. S p && following (positions_of plan) p q) (λ p. and_false (S p) (following (positions_of plan) p q) (sym (plan.right.1 p q) ∙ members_high (get_or plan.tables.next p blank) q l))
 
 back_nowhere : (plan : Plan) (S : Members) (p : ℕ) → width ≤ p → ((positions_of plan).last p && S 0 || some width (λ q. S q && (positions_of plan).follow p q)) ≡ false
 back_nowhere plan S p l =
     sym (back_split (tree_of plan) (numbered (codes_of plan)) S p)
-    ∙ nowhere (λ q. S q && preceding (positions_of plan) q p) (λ q. and_false (S q) (preceding (positions_of plan) q p) (sym (plan.right.2 q p) ∙ holds_high (get_or plan.tables.prior q blank) p l))
+    ∙ nowhere (λ q. S q && preceding (positions_of plan) q p) (λ q. and_false (S q) (preceding (positions_of plan) q p) (sym (plan.right.2 q p) ∙ members_high (get_or plan.tables.prior q blank) p l))
 
 -- the step by a set that passes is the step by what passes
 module _ {Sym : Type 0} (plan : Plan) (S : Members) (s : PositionSet) (passes : ℕ → Sym → Bool) (t : Sym) (e : holds s ≡ shared (below width) (λ q. passes q t)) where
@@ -125,7 +123,7 @@ meets_common r s g h e d = go r d
     to : Met → common width (holds s) h ≡ true
     to m =
         from_test (common width (holds s) h)
-        ((some_is width (λ p. holds s p && h p)).1 (m.0, holds_low s m.0 m.1, to_test (holds s m.0 && h m.0) (and_from (holds s m.0) (h m.0) m.1 (ap (λ f. f m.0) (sym e) ∙ m.2))))
+        ((some_is width (λ p. holds s p && h p)).1 (m.0, members_low s m.0 m.1, to_test (holds s m.0 && h m.0) (and_from (holds s m.0) (h m.0) m.1 (ap (λ f. f m.0) (sym e) ∙ m.2))))
 
     back : common width (holds s) h ≡ true → Met
     back c =

@@ -3,8 +3,7 @@ use Rattle.std.specs.Prelude.{◌≡◌, ℕ, ◌≤◌, Bool, cond, ◌&&◌, L
 use Rattle.pattern.specs.declared.Code.{Code}
 use Rattle.pattern.specs.Tree.{Tree}
 use Rattle.pattern.specs.Codes.{tree, TreeOf, count}
-use Rattle.sets.specs.Positions.{holds}
-use Rattle.sets.specs.declared.positions.PositionSet.{PositionSet}
+use Rattle.sets.specs.Positions.{holds, PositionSet}
 use Rattle.theory.specs.Positions.{Positions, positions}
 use Rattle.sealed.specs.declared.plan.Plan.{Plan}
 use Rattle.sealed.specs.Assembling.{atom_codes}

@@ -1,11 +1,11 @@
 -- A table of sets of positions, a row for each position.
 use Rattle.std.specs.Prelude.{ℕ, Bool, cond, List, ◌==◌, slice_index_or}
-use Rattle.sets.specs.Positions.{holds}
-use Rattle.sets.specs.declared.positions.PositionSet.{PositionSet}
+use Rattle.sets.specs.BitSets.{set_of_bits}
+use Rattle.sets.specs.Positions.{holds, PositionSet}
 use Rattle.theory.specs.Positions.{Positions}
 
 abbrev pub blank : PositionSet
-blank = record { bits = 0 }
+blank = set_of_bits 0
 
 -- whether the row p has q
 abbrev pub entry : List PositionSet → ℕ → ℕ → Bool

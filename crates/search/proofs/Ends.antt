@@ -7,7 +7,7 @@ use Rattle.refusal.specs.declared.Cause.{Cause}
 use Rattle.refusal.specs.declared.Cause.TheVariants.{RecordTooLong, FromPastEnd, LimitTooLarge}
 use Rattle.refusal.specs.declared.Refusal.{Refusal}
 use Rattle.sets.specs.Members.{Members, none, below, less}
-use Rattle.sets.specs.declared.positions.PositionSet.{PositionSet}
+use Rattle.sets.specs.Positions.{PositionSet}
 use Rattle.memory.proofs.Sizes.{size_nothing}
 use Rattle.theory.specs.declared.Span.{Span}
 use Rattle.theory.specs.Reads.{Read, State, back_reads, ahead_reads, start_reads, find_reads, list_reads}

@@ -1,6 +1,6 @@
 -- What the policy hears, in order.
 use Rattle.std.proofs.Common.{◌≡◌, ℕ, [], ◌∷◌, Option, sym, refl, subst}
-use Rattle.sets.specs.declared.positions.PositionSet.{PositionSet}
+use Rattle.sets.specs.Positions.{PositionSet}
 use Rattle.memory.specs.declared.shelf.Shelf.{Ghosts as ShelfMeaning}
 use Rattle.memory.specs.declared.policy.Policy.{Ghosts as PolicyMeaning}
 use Rattle.theory.specs.declared.Direction.{Direction}

@@ -4,7 +4,7 @@ use Rattle.std.proofs.lemmas.List.{append_assoc, append-nil, take_more_set, drop
 use Rattle.std.proofs.lemmas.Bool.{ltb-true, ltb-false}
 use Rattle.collector.specs.declared.Collector.{Collector}
 use Rattle.collector.specs.Pushing.{Pushed, held, size}
-use Rattle.sets.specs.declared.positions.PositionSet.{PositionSet}
+use Rattle.sets.specs.Positions.{PositionSet}
 use Rattle.memory.specs.declared.shelf.Shelf.{Ghosts as ShelfMeaning}
 use Rattle.memory.specs.declared.policy.Policy.{Ghosts as PolicyMeaning}
 use Rattle.theory.specs.declared.Span.{Span}

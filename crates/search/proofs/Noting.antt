@@ -3,7 +3,7 @@ use Rattle.std.proofs.Common.{◌≡◌, ℕ, ◌+◌, ◌<◌, ◌≤◌, Bool,
 use mathlib.Core.Path.{fun_ext}
 use Rattle.std.proofs.lemmas.Bool.{lt-ltb, both_ways}
 use Rattle.sets.specs.Members.{below}
-use Rattle.sets.specs.declared.positions.PositionSet.{PositionSet}
+use Rattle.sets.specs.Positions.{PositionSet}
 use Rattle.memory.specs.Steps.{Map, nothing, without, noted, size, notable, after, Within, Bounds}
 use Rattle.memory.proofs.Sizes.{size_le, size_nothing, notable_from}
 use Rattle.law.specs.Memory.{Memory, steps_known, Noted, spare, full}

@@ -4,10 +4,10 @@ use mathlib.Core.Path.{fun_ext}
 use mathlib.Core.Bool.{beq}
 use Rattle.std.proofs.lemmas.Bool.{cases_Bool, cases_eq, eq-eqb, ne_eqb, lt-ltb, ltb-true, and_parts, both_ways}
 use Rattle.sets.specs.Members.{Members, plus, less, tally}
-use Rattle.sets.specs.Places.{member, LowestFree}
-use Rattle.sets.specs.declared.places.PlaceSet.{PlaceSet}
-use Rattle.sets.specs.declared.positions.PositionSet.{PositionSet}
-use Rattle.sets.proofs.Known.{member_low}
+use Rattle.sets.specs.Lowest.{LowestFree}
+use Rattle.sets.specs.Places.{member, PlaceSet}
+use Rattle.sets.specs.Positions.{PositionSet}
+use Rattle.sets.proofs.Known.{members_low}
 use Rattle.memory.specs.Steps.{Map}
 use Rattle.memory.specs.declared.shelf.Shelf.{Ghosts as ShelfMeaning}
 use Rattle.memory.specs.declared.policy.Policy.{Ghosts as PolicyMeaning}
@@ -105,7 +105,7 @@ counted live back sets = tally_same _ live 64 (λ k _. taken_lives live back set
 pub absent : (s : PlaceSet) (back : Members) (sets : List PositionSet) (v : PositionSet) (d : Direction) → ((p : ℕ) → p < 64 → (member s p ≡ true) × (get_or sets p no_set ≡ v) × (back p ≡ backward d) → ⊥) → (p : ℕ) → lives (member s) sets back p ≡ Some (state d v) → ⊥
 absent s back sets v d h p e =
     let w = is_here (member s) back sets p v d e in
-    h p (member_low s p w.on) (w.on, w.holds, w.way)
+    h p (members_low s p w.on) (w.on, w.holds, w.way)
 
 pub lowest : (m : Memory PositionSet) (live back : Members) (sets : List PositionSet) (p : ℕ) → m.live ≡ lives live sets back → LowestFree live p → LowestFree (held_places m) p
 lowest m live back sets p e f =

@@ -1,7 +1,7 @@
 -- What the policy hears while symbols are read: each seating and each drop, what was met again, and that it is asked.
 use Rattle.std.specs.Prelude.{◌≡◌, ℕ, ◌+◌, List, [], ◌∷◌, Some, None, Option, slice_index_or}
 use Rattle.sets.specs.Members.{Members, none, plus}
-use Rattle.sets.specs.declared.positions.PositionSet.{PositionSet}
+use Rattle.sets.specs.Positions.{PositionSet}
 use Rattle.memory.specs.Live.{News}
 use Rattle.memory.specs.Live.News.{seated, dropped, met, chose}
 use Rattle.memory.specs.Steps.{Map}

@@ -1,8 +1,9 @@
 -- What a searcher remembers, read off its fields.
 use Rattle.std.specs.Prelude.{◌≡◌, ℕ, ◌<◌, Bool, true, false, cond, List, Some, None, Option, ◌==◌, slice_index_or}
+use Rattle.sets.specs.BitSets.{set_of_bits}
 use Rattle.sets.specs.Members.{Members}
 use Rattle.sets.specs.Places.{member}
-use Rattle.sets.specs.declared.positions.PositionSet.{PositionSet}
+use Rattle.sets.specs.Positions.{PositionSet}
 use Rattle.memory.specs.declared.shelf.Shelf.{Ghosts as ShelfMeaning}
 use Rattle.memory.specs.declared.policy.Policy.{Ghosts as PolicyMeaning}
 use Rattle.theory.specs.declared.Direction.{Direction}
@@ -28,7 +29,7 @@ backward Ahead = false
 backward Back = true
 
 abbrev pub no_set : PositionSet
-no_set = record { bits = 0 }
+no_set = set_of_bits 0
 
 abbrev pub state : Direction → PositionSet → State PositionSet
 state d set = record { direction = d; set = set }

@@ -1,7 +1,7 @@
 -- How far a scan has come: what it knows of the record that lies behind it, and the row of its reads.
 use Rattle.std.specs.Prelude.{◌≡◌, ℕ, ◌-◌, ◌≤◌, cond, List, [], ◌++◌, length, drop, IfSome, Some, Option, slice_index_or}
 use Rattle.collector.specs.declared.Collector.{Collector}
-use Rattle.sets.specs.declared.positions.PositionSet.{PositionSet}
+use Rattle.sets.specs.Positions.{PositionSet}
 use Rattle.memory.specs.declared.shelf.Shelf.{Ghosts as ShelfMeaning}
 use Rattle.memory.specs.declared.policy.Policy.{Ghosts as PolicyMeaning}
 use Rattle.theory.specs.declared.Direction.TheVariants.{Ahead, Back}

@@ -4,7 +4,7 @@ use borrow.Rule.Slice.PartMut.{put_mid}
 use Rattle.std.proofs.lemmas.List.{length-take-le, take_more, take_more_set, take-take, drop-drop, drop-take}
 use Rattle.std.proofs.lemmas.Slice.{take-put_mid_below, between-put_mid}
 use Rattle.theory.specs.declared.Span.{Span}
-use Rattle.sets.specs.declared.positions.PositionSet.{PositionSet}
+use Rattle.sets.specs.Positions.{PositionSet}
 use Rattle.memory.specs.declared.shelf.Shelf.{Ghosts as ShelfMeaning}
 use Rattle.memory.specs.declared.policy.Policy.{Ghosts as PolicyMeaning}
 use Rattle.law.specs.Subject.{Subject, Proper}

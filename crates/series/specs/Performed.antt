@@ -1,6 +1,6 @@
 -- The requests and the replies of a series of calls: the lists take their entries from one pool, one after the other.
 use Rattle.std.specs.Prelude.{◌≡◌, ℕ, ◌+◌, ◌-◌, min, List, [], ◌∷◌, ◌++◌, map, length, take, drop}
-use Rattle.sets.specs.declared.positions.PositionSet.{PositionSet}
+use Rattle.sets.specs.Positions.{PositionSet}
 use Rattle.theory.specs.declared.Span.{Span}
 use Rattle.law.specs.Subject.{Subject}
 use Rattle.law.specs.Memory.{Memory, opened}

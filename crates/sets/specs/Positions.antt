@@ -1,21 +1,19 @@
--- The members of a set of positions of a pattern, which are numbered from 0 and lie below `width`.
-use Rattle.std.specs.Prelude.{◌≡◌, ℕ, ◌<◌, ◌≤◌, Bool, true, false, ◌==◌}
+-- Sets of positions of a pattern, which are numbered from 0 and lie below `width`.
+use Rattle.std.specs.Prelude.{ℕ, Bool, ◌==◌}
 use Rattle.sets.specs.Members.{Members}
-use Rattle.sets.specs.Masks.{mask}
-use Rattle.sets.specs.declared.positions.PositionSet.{PositionSet}
+use Rattle.sets.specs.BitSets.{members}
+use Rattle.sets.specs.declared.bit_set.BitSet.{BitSet}
+use Rattle.sets.specs.declared.bit_set.Position.{Position}
 
-unfoldable pub width : ℕ
+abbrev pub PositionSet : Type 0
+PositionSet = BitSet Position
+
+abbrev pub width : ℕ
 width = 64
 
-unfoldable pub holds : PositionSet → Members
-holds s = mask 64 s.bits
+abbrev pub holds : PositionSet → Members
+holds = members
 
 -- are the two one set
 unfoldable pub alike : PositionSet → PositionSet → Bool
 alike s t = s.bits == t.bits
-
--- p is the lowest member that is not below from
-pub record LowestFrom (f : Members) (from p : ℕ) : Type 0 where
-  pub low : from ≤ p
-  pub member : f p ≡ true
-  pub lower : (k : ℕ) → from ≤ k → k < p → f k ≡ false

@@ -1,8 +1,6 @@
-// Sets of places and sets of positions, as types whose contracts speak of members alone.
+// Sets of places and sets of positions, as one type whose contracts speak of members alone.
 #![tactic(auto)]
 
-mod places;
-mod positions;
+mod bit_set;
 
-pub use places::PlaceSet;
-pub use positions::PositionSet;
+pub use bit_set::{BitSet, Place, PlaceSet, Position, PositionSet};

@@ -1,7 +1,7 @@
 // The scan ahead, from a place where a word begins: where the longest one ends.
 ghost use Rattle.std.specs.Prelude.{◌≡◌, ℕ, ◌+◌, ◌-◌, ◌<◌, ◌≤◌, false, not, ◌&&◌, length, if◌then◌else◌, nat_lt};
 ghost use Rattle.law.specs.Memory.{Memory};
-ghost use Rattle.sets.specs.declared.positions.PositionSet.{PositionSet};
+ghost use Rattle.sets.specs.Positions.{PositionSet};
 ghost use Rattle.search.specs.Remembered.{memory, subject, Ready};
 ghost use Rattle.sets.specs.Places.{member};
 ghost use Rattle.law.specs.Reading.{Counts as Tallies};

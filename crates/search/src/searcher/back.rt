@@ -1,7 +1,7 @@
 // The scan back, from the record's end: where words begin.
 ghost use Rattle.std.specs.Prelude.{◌≡◌, ℕ, ◌-◌, ◌<◌, ◌≤◌, length, IfSome, if◌then◌else◌, Some};
 ghost use Rattle.law.specs.Memory.{Memory};
-ghost use Rattle.sets.specs.declared.positions.PositionSet.{PositionSet};
+ghost use Rattle.sets.specs.Positions.{PositionSet};
 ghost use Rattle.search.specs.Remembered.{memory, subject, Ready};
 ghost use Rattle.law.specs.Reading.{Counts as Tallies};
 ghost use Rattle.search.specs.Counted.{known_more};

@@ -46,7 +46,7 @@ impl<'p, M: Automaton, S: Shelf, P: Policy> Searcher<'p, M, S, P> {
         if self.back.has(place) != is_back(direction) {
             return false;
         }
-        self.sets[place as usize].same(set)
+        self.sets[place as usize] == set
     }
 
     // The place where the set is live for the direction.

@@ -1,7 +1,6 @@
 use Rattle.std.proofs.Common.{◌≡◌, ℕ, ◌+◌, ◌*◌, ◌<◌, List, length, get_or, take, sym, ap, ◌∙◌, arith}
 use Rattle.std.proofs.lemmas.List.{length-take, length-take-le}
-use Rattle.sets.specs.Positions.{holds}
-use Rattle.sets.specs.declared.positions.PositionSet.{PositionSet}
+use Rattle.sets.specs.Positions.{holds, PositionSet}
 use Rattle.symbols.specs.declared.EventTest.{EventTest}
 use Rattle.event_classes.specs.Cuts.{cuts, at_or_below, lowest_code}
 use Rattle.event_classes.specs.Tables.{passed_code}

@@ -1,7 +1,7 @@
 use Rattle.std.proofs.Common.{refl, subst, arith}
 use Rattle.sets.specs.Places.{member}
 use Rattle.law.specs.Memory.{Memory}
-use Rattle.sets.specs.declared.positions.PositionSet.{PositionSet}
+use Rattle.sets.specs.Positions.{PositionSet}
 use Rattle.memory.specs.Live.News.{met}
 use Rattle.search.specs.Heard.{knew, stepped}
 use Rattle.search.specs.Remembered.{memory, subject, Builds}

@@ -1,5 +1,5 @@
 use Rattle.std.proofs.Common.{ℕ, ◌-◌, ◌<◌, ◌≤◌, IfSome}
-use Rattle.sets.specs.declared.positions.PositionSet.{PositionSet}
+use Rattle.sets.specs.Positions.{PositionSet}
 use Rattle.law.specs.Memory.{Memory}
 use Rattle.law.specs.Reading.{Counts as Tallies}
 use Rattle.search.specs.Counted.{known_more}

@@ -1,9 +1,10 @@
 use Rattle.std.proofs.Common.{◌≡◌, ℕ, ◌+◌, ◌<◌, ◌≤◌, [], ◌∷◌, sym, refl, ap, ◌∙◌, subst, arith}
 use Rattle.std.proofs.lemmas.Bool.{both_ways, lt-ltb}
 use Rattle.sets.specs.Members.{tally}
-use Rattle.sets.specs.Places.{member, LowestFree}
-use Rattle.sets.specs.declared.positions.PositionSet.{PositionSet}
-use Rattle.sets.proofs.Known.{member_low}
+use Rattle.sets.specs.Lowest.{LowestFree}
+use Rattle.sets.specs.Places.{member}
+use Rattle.sets.specs.Positions.{PositionSet}
+use Rattle.sets.proofs.Known.{members_low}
 use Rattle.law.specs.Memory.{Memory, already, room, made, nowhere, held_places, without_places, with_set, steps_known}
 use Rattle.law.proofs.Tally.{tally_lowest}
 use Rattle.memory.specs.Live.News.{seated, dropped, met, chose}
@@ -51,7 +52,7 @@ unreachable-requires g c =
       | then-count-allowance+else-is_empty w ↦
           let x = w.if-is_empty.ensures in
           let k : ℕ = x.0 in
-          let l : k < 64 = member_low w.choose-places.result k x.1 in
+          let l : k < 64 = members_low w.choose-places.result k x.1 in
           both_ways (member c.if-count-allowance.self.live k)
           (ap (λ s. member s.live k) w.self-is
           ∙ ap (λ f. f k) w.drop_these-gone.ensures.live
@@ -87,7 +88,7 @@ returns g c =
           let gone : w.drop_these-gone.result + steps_known (without_places m places) ≡ steps_known m = w.drop_these-gone.ensures.gone in
           record {
             seated = made places p out (omega (arith, c.count.ensures, c.allowance.ensures, cnt))
-                record { within = w.choose-places.ensures.within; low = member_low w.choose-places.result; some = w.if-is_empty.ensures }
+                record { within = w.choose-places.ensures.within; low = members_low w.choose-places.result; some = w.if-is_empty.ensures }
                 (subst F e free) refl
                 (c.put.ensures.put ∙ ap (λ (y : Memory PositionSet). with_set y p x) e)
                 (ap (λ y. y + steps_known (without_places m places)) w.gone-is ∙ gone);

@@ -1,0 +1,9 @@
+use Rattle.std.proofs.Common.{nat_eq, arith}
+use Rattle.std.proofs.Math.Bool.{and-true}
+use Rattle.sets.proofs.Sets.{same_mask}
+use Rattle.sets.specs.BitSets.{members}
+use Rattle.sets.proofs.bit_set.equality_stands.Goals as goal
+
+pub returns : goal.returns
+unfolding members
+returns g c = rw (and-true (nat_eq c.args._a.bits c.args._b.bits)) (same_mask 64 c.args._a.bits c.args._b.bits (omega arith) (omega arith))
