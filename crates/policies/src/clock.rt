@@ -5,7 +5,7 @@ ghost use Rattle.memory.specs.Live.{May};
 ghost use Rattle.memory.specs.Live.News.{chose};
 ghost use Rattle.policies.specs.Heard.{clock_hears, way_from};
 ghost use Rattle.policies.specs.Round.{next, way, round, only, hand_after};
-ghost use Rattle.sets.proofs.Known.{member_low};
+ghost use Rattle.sets.proofs.Known.{members_low};
 
 use crate::others::without_held;
 use memory::policy::Policy;
@@ -49,7 +49,7 @@ impl Policy for Clock {
 
     ghost hears = { λ a e b. clock_hears (face_of a) e (face_of b) };
 
-    ghost low = { λ s k e. member_low s.live k e };
+    ghost low = { λ s k e. members_low s.live k e };
 
     fn seat(&mut self, place: u8) {
         self.live = self.live.with(place);

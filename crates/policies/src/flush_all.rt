@@ -2,7 +2,7 @@ ghost use Rattle.std.specs.Prelude.{◌≡◌};
 ghost use Rattle.sets.specs.Members.{none};
 ghost use Rattle.sets.specs.Places.{member};
 ghost use Rattle.policies.specs.Heard.{flush_hears};
-ghost use Rattle.sets.proofs.Known.{member_low};
+ghost use Rattle.sets.proofs.Known.{members_low};
 
 use crate::others::without_held;
 use memory::policy::Policy;
@@ -30,7 +30,7 @@ impl Policy for FlushAll {
 
     ghost hears = { λ a e b. flush_hears (member a.live) e (member b.live) };
 
-    ghost low = { λ s k e. member_low s.live k e };
+    ghost low = { λ s k e. members_low s.live k e };
 
     fn seat(&mut self, place: u8) {
         self.live = self.live.with(place);

@@ -1,8 +1,8 @@
 use Rattle.std.proofs.Common.{◌≡◌, ℕ, ◌<◌, true, Some, None, Option, sym, refl, ap, ◌∙◌, subst}
 use Rattle.sets.specs.Members.{Members}
 use Rattle.sets.specs.Places.{member}
-use Rattle.sets.specs.declared.places.PlaceSet.{PlaceSet}
-use Rattle.sets.proofs.Known.{member_low}
+use Rattle.sets.specs.Places.{PlaceSet}
+use Rattle.sets.proofs.Known.{members_low}
 use Rattle.memory.specs.Live.{May}
 use Rattle.policies.specs.Round.{others, way, round, only, hand_after}
 use Rattle.policies.specs.Chosen.{Chosen, Choice}
@@ -25,11 +25,11 @@ told live marks held hand o set left moved low w names behind =
     let l : Chosen (others (member live) held) (member marks) hand o left =
     subst (λ (x : Option ℕ). Chosen (others (member live) held) (member marks) hand x left) (sym f)
     (subst (λ (x : Members). Chosen (others (member live) held) (member marks) hand (round (others (member live) held) (member marks) hand).found x) (sym m)
-    (round_chosen (others (member live) held) (member marks) hand (others_low (member live) held (member_low live)) low))
+    (round_chosen (others (member live) held) (member marks) hand (others_low (member live) held (members_low live)) low))
     in
     record {
       within = λ k h. choice_within (member live) (member marks) held hand k o left l (sym (ap (λ g. g k) names) ∙ h);
-      some = λ k h. let j = choice_some (member live) (member marks) held hand k o left (member_low live) l h in (j.0, ap (λ g. g j.0) names ∙ j.1);
+      some = λ k h. let j = choice_some (member live) (member marks) held hand k o left (members_low live) l h in (j.0, ap (λ g. g j.0) names ∙ j.1);
       choice = record { place = o; names = names; chosen = l; behind = behind };
       answer = names ∙ ap only f;
       marks_left = m;
