@@ -1,11 +1,13 @@
 // The files of a run: a pattern's text, a record of bytes, a record of events.
 use anyhow::anyhow;
 use byte_classes::ByteClasses;
+use byte_notation::Bytes;
 use event_classes::EventCuts;
+use event_notation::Events;
 use reader::Draft;
 use sealed::Sealed;
 use std::fs;
-use symbols::{ByteTest, Event, EventTest};
+use symbols::Event;
 
 pub fn bytes(rt: &HostRuntime, path: &str) -> anyhow::Result<Vec<u8>> {
     Ok(fs::read(rt, path)?)
@@ -13,22 +15,18 @@ pub fn bytes(rt: &HostRuntime, path: &str) -> anyhow::Result<Vec<u8>> {
 
 pub fn byte_pattern(rt: &HostRuntime, path: &str) -> anyhow::Result<Sealed<ByteClasses>> {
     let text = bytes(rt, path)?;
-    let mut draft = Draft::new(ByteTest::none());
-    match reader::read_bytes(&mut draft, text.as_slice()) {
-        Ok(()) => Ok(sealed::seal_bytes(draft)),
+    let mut draft = Draft::new();
+    match draft.read::<Bytes>(text.as_slice()) {
+        Ok(()) => Ok(sealed::seal(draft)),
         Err(_) => Err(anyhow!("the pattern is refused")),
     }
 }
 
 pub fn event_pattern(rt: &HostRuntime, path: &str) -> anyhow::Result<Sealed<EventCuts>> {
     let text = bytes(rt, path)?;
-    let mut draft = Draft::new(EventTest {
-        low: 0,
-        high: 0,
-        inverted: false,
-    });
-    match reader::read_events(&mut draft, text.as_slice()) {
-        Ok(()) => Ok(sealed::seal_events(draft)),
+    let mut draft = Draft::new();
+    match draft.read::<Events>(text.as_slice()) {
+        Ok(()) => Ok(sealed::seal(draft)),
         Err(_) => Err(anyhow!("the pattern is refused")),
     }
 }

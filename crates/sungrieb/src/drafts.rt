@@ -1,4 +1,6 @@
 // The draft of either notation, and which of them was read last.
+use byte_notation::Bytes;
+use event_notation::Events;
 use reader::Draft;
 use refusal::Refusal;
 use script::command::Kind;
@@ -14,8 +16,8 @@ pub struct Drafts {
 impl Drafts {
     pub fn new() -> Drafts {
         Drafts {
-            bytes: Drafts::no_bytes(),
-            events: Drafts::no_events(),
+            bytes: Draft::new(),
+            events: Draft::new(),
             last: Kind::Bytes,
         }
     }
@@ -23,29 +25,8 @@ impl Drafts {
     pub fn read(&mut self, kind: Kind, text: &[u8]) -> Result<(), Refusal> {
         self.last = kind;
         match kind {
-            Kind::Bytes => reader::read_bytes(&mut self.bytes, text),
-            Kind::Events => reader::read_events(&mut self.events, text),
+            Kind::Bytes => self.bytes.read::<Bytes>(text),
+            Kind::Events => self.events.read::<Events>(text),
         }
-    }
-
-    // Takes the draft, and leaves an empty one.
-    pub fn take_bytes(&mut self) -> Draft<ByteTest> {
-        std::mem::replace(&mut self.bytes, Drafts::no_bytes())
-    }
-
-    pub fn take_events(&mut self) -> Draft<EventTest> {
-        std::mem::replace(&mut self.events, Drafts::no_events())
-    }
-
-    fn no_bytes() -> Draft<ByteTest> {
-        Draft::new(ByteTest::none())
-    }
-
-    fn no_events() -> Draft<EventTest> {
-        Draft::new(EventTest {
-            low: 0,
-            high: 0,
-            inverted: false,
-        })
     }
 }

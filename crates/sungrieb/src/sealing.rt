@@ -11,6 +11,7 @@ use script::symbol;
 use sealed::Sealed;
 use sets::PositionSet;
 use std::io::Write;
+use std::mem;
 
 #[derive(Drop)]
 pub enum Pattern {
@@ -26,14 +27,14 @@ impl Pattern {
     pub fn seal(drafts: &mut Drafts) -> Pattern {
         match drafts.last {
             Kind::Bytes => {
-                let draft = drafts.take_bytes();
+                let draft = mem::take(&mut drafts.bytes);
                 let atoms = draft.atoms();
-                Pattern::Bytes(sealed::seal_bytes(draft), atoms)
+                Pattern::Bytes(sealed::seal(draft), atoms)
             }
             Kind::Events => {
-                let draft = drafts.take_events();
+                let draft = mem::take(&mut drafts.events);
                 let atoms = draft.atoms();
-                Pattern::Events(sealed::seal_events(draft), atoms)
+                Pattern::Events(sealed::seal(draft), atoms)
             }
         }
     }
