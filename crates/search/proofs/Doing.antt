@@ -16,8 +16,7 @@ use Rattle.law.specs.Law.{ByWords}
 use Rattle.law.proofs.Calling.{calling, says}
 use Rattle.automaton.specs.declared.automaton.Automaton.{Ghosts as AutomatonMeaning}
 use Rattle.search.specs.declared.searcher.Searcher.{Searcher}
-use Rattle.search.specs.declared.searcher.BackScan.{BackScan}
-use Rattle.search.specs.declared.searcher.AheadScan.{AheadScan}
+use Rattle.search.specs.declared.searcher.Scan.{Scan}
 use Rattle.search.specs.declared.answer.Found.{Found}
 use Rattle.search.specs.declared.answer.Listed.{Listed}
 use Rattle.search.specs.Counted.{tallied}
@@ -42,19 +41,19 @@ module _ {M S P Sym : Type 0} (automaton : AutomatonMeaning M Sym) (shelf : Shel
   pub by_words : (s n : Searcher M S P) (c : Request Sym) (a : Reply) → Ready automaton shelf policy s → Did automaton shelf policy s c n a → ByWords (subject automaton s) c a
   by_words s n c a ready did = (calling (subject automaton s) (laws s.automaton.now) (memory shelf policy s) c (memory shelf policy n) a ready.sound did.answered).words
 
-  pub located_some : (j n : Searcher M S P) (m : Memory PositionSet) (r : List Sym) (f s : ℕ) (back : BackScan) (ahead : AheadScan) (finding : Found) → n.automaton ≡ j.automaton → back.at ≡ f → back.start ≡ Some s → finding.span ≡ cond (ltb s ahead.end) (Some (record { start = s; end = ahead.end })) None → tallied finding.counts ≡ both (tallied back.counts) (tallied ahead.counts) → Backed automaton shelf policy m r back j → Reached automaton shelf policy (memory shelf policy j) r s ahead n → Located automaton shelf policy m r f finding n
+  pub located_some : (j n : Searcher M S P) (m : Memory PositionSet) (r : List Sym) (f s : ℕ) (back : Scan (Option ℕ)) (ahead : Scan ℕ) (finding : Found) → n.automaton ≡ j.automaton → back.at ≡ f → back.mark ≡ Some s → finding.span ≡ cond (ltb s ahead.mark) (Some (record { start = s; end = ahead.mark })) None → tallied finding.counts ≡ both (tallied back.counts) (tallied ahead.counts) → Backed automaton shelf policy m r back j → Reached automaton shelf policy (memory shelf policy j) r s ahead n → Located automaton shelf policy m r f finding n
   located_some j n m r f s back ahead finding e at is span z b a =
       let X = subject automaton n in
-      let so : BackSoFar X m r f back.cursor.set back.start (memory shelf policy j) (tallied back.counts) =
-      subst (λ y. BackSoFar X m r y back.cursor.set back.start (memory shelf policy j) (tallied back.counts)) at
-      (subst (λ y. BackSoFar (automaton.subject y.now) m r back.at back.cursor.set back.start (memory shelf policy j) (tallied back.counts)) (sym e) b.so_far) in
+      let so : BackSoFar X m r f back.cursor.set back.mark (memory shelf policy j) (tallied back.counts) =
+      subst (λ y. BackSoFar X m r y back.cursor.set back.mark (memory shelf policy j) (tallied back.counts)) at
+      (subst (λ y. BackSoFar (automaton.subject y.now) m r back.at back.cursor.set back.mark (memory shelf policy j) (tallied back.counts)) (sym e) b.so_far) in
       let begins : start X.machine f (drop f r) ≡ Some s = sym so.start_is ∙ is in
-      let is_find : Some (record { start = s; end = ahead.end }) ≡ find X.machine r f = find_some X r f s ahead.end begins a.end_is in
+      let is_find : Some (record { start = s; end = ahead.mark }) ≡ find X.machine r f = find_some X r f s ahead.mark begins a.end_is in
       let F : Option Span → Type 0 = λ o. Finds (Word X) r f o in
-      let word : Finds (Word X) r f (Some (record { start = s; end = ahead.end })) = subst F (sym is_find) (says X (laws n.automaton.now) (Find r f)) in
+      let word : Finds (Word X) r f (Some (record { start = s; end = ahead.mark })) = subst F (sym is_find) (says X (laws n.automaton.now) (Find r f)) in
       record {
         ready = a.ready;
-        span_is = span ∙ ap (λ b. cond b (Some (record { start = s; end = ahead.end })) None) (lt-ltb s ahead.end word.match.some) ∙ is_find;
+        span_is = span ∙ ap (λ b. cond b (Some (record { start = s; end = ahead.mark })) None) (lt-ltb s ahead.mark word.match.some) ∙ is_find;
         walk = walk_some X m (memory shelf policy j) (memory shelf policy n) r f s (tallied back.counts) (tallied ahead.counts) (tallied finding.counts) begins so.walk a.walk z;
       }
 
@@ -66,7 +65,7 @@ module _ {M S P Sym : Type 0} (automaton : AutomatonMeaning M Sym) (shelf : Shel
         ready = w.ready;
       }
 
-  pub did_whole : (s n : Searcher M S P) (r : List Sym) (y : Bool) (ahead : AheadScan) → n.automaton ≡ s.automaton → length r ≤ 1048576 → y ≡ whole (subject automaton n).machine r → Reached automaton shelf policy (memory shelf policy s) r 0 ahead n → Did automaton shelf policy s (Search (Whole r)) n (Searched (Told y) (tallied ahead.counts))
+  pub did_whole : (s n : Searcher M S P) (r : List Sym) (y : Bool) (ahead : Scan ℕ) → n.automaton ≡ s.automaton → length r ≤ 1048576 → y ≡ whole (subject automaton n).machine r → Reached automaton shelf policy (memory shelf policy s) r 0 ahead n → Did automaton shelf policy s (Search (Whole r)) n (Searched (Told y) (tallied ahead.counts))
   did_whole s n r y ahead e l is w =
       record {
         answered = subst (λ z. Answered (automaton.subject z.now) (memory shelf policy s) (Search (Whole r)) (memory shelf policy n) (Searched (Told y) (tallied ahead.counts))) e

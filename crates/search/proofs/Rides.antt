@@ -1,5 +1,5 @@
 -- The turns of a run over known steps.
-use Rattle.std.proofs.Common.{◌≡◌, ℕ, ◌+◌, ◌<◌, Bool, true, false, cond, List, length, get_or, Some, sym, refl, ap, ◌∙◌, subst, arith}
+use Rattle.std.proofs.Common.{◌≡◌, ℕ, ◌+◌, ◌<◌, Bool, true, false, cond, List, length, get_or, Some, Option, sym, refl, ap, ◌∙◌, subst, arith}
 use Rattle.sets.specs.Places.{member}
 use Rattle.sets.specs.Positions.{PositionSet}
 use Rattle.memory.specs.declared.shelf.Shelf.{Ghosts as ShelfMeaning}
@@ -12,10 +12,8 @@ use Rattle.law.specs.Reading.{Counts as Tallies, both, OneRead}
 use Rattle.law.proofs.Readings.{known_read}
 use Rattle.automaton.specs.declared.automaton.Automaton.{Ghosts as AutomatonMeaning}
 use Rattle.search.specs.declared.searcher.Searcher.{Searcher}
-use Rattle.search.specs.declared.searcher.BackScan.{BackScan}
-use Rattle.search.specs.declared.searcher.BackRun.{BackRun}
-use Rattle.search.specs.declared.searcher.AheadScan.{AheadScan}
-use Rattle.search.specs.declared.searcher.AheadRun.{AheadRun}
+use Rattle.search.specs.declared.searcher.Scan.{Scan}
+use Rattle.search.specs.declared.searcher.Run.{Run}
 use Rattle.search.specs.Counted.{tallied, known_more}
 use Rattle.search.specs.Remembered.{no_set, state, read, memory, subject, Ready}
 use Rattle.search.specs.Scanning.{BackSoFar, Backed, RidingBack, AheadSoFar, Aheaded, RidingAhead}
@@ -63,21 +61,21 @@ module _ {M S P Sym : Type 0} (automaton : AutomatonMeaning M Sym) (shelf : Shel
         there = there ∙ ap (λ x. Some (state d x)) (sym h.holds);
       }
 
-  pub riding_next : (s : Searcher M S P) (m : Memory PositionSet) (r : List Sym) (run run' : BackRun) (k kk : Tallies) (a : Sym) (c t : ℕ) (b : Bool) → run.at ≡ run'.at + 1 → run'.at < length r → a ≡ get_or r run'.at a → (subject automaton s).fit a ≡ true → c ≡ (subject automaton s).class_of a → Some t ≡ shelf.steps s.shelf run.place c → run'.place ≡ t → b ≡ member s.begins t → run'.start ≡ cond b (Some run'.at) run.start → kk ≡ both k one_known → RidingBack automaton shelf policy m r run k s → RidingBack automaton shelf policy m r run' kk s
+  pub riding_next : (s : Searcher M S P) (m : Memory PositionSet) (r : List Sym) (run run' : Run (Option ℕ)) (k kk : Tallies) (a : Sym) (c t : ℕ) (b : Bool) → run.at ≡ run'.at + 1 → run'.at < length r → a ≡ get_or r run'.at a → (subject automaton s).fit a ≡ true → c ≡ (subject automaton s).class_of a → Some t ≡ shelf.steps s.shelf run.place c → run'.place ≡ t → b ≡ member s.begins t → run'.mark ≡ cond b (Some run'.at) run.mark → kk ≡ both k one_known → RidingBack automaton shelf policy m r run k s → RidingBack automaton shelf policy m r run' kk s
   riding_next s m r run run' k kk a c t b e l is fit cl know to f o z h =
       let X = subject automaton s in
       let n = memory shelf policy s in
       let w = step s Back run.place a c t h.ready fit cl know h.held in
-      let next : BackSoFar X m r run'.at (get_or s.sets t no_set) (cond b (Some run'.at) run.start) n kk =
-      back_next X m r run'.at run.at a (get_or s.sets run.place no_set) (get_or s.sets t no_set) run.start n n k one_known kk b e l is h.so_far w.one w.to (sym (f ∙ h.ready.flags.begins t w.on)) z in
+      let next : BackSoFar X m r run'.at (get_or s.sets t no_set) (cond b (Some run'.at) run.mark) n kk =
+      back_next X m r run'.at run.at a (get_or s.sets run.place no_set) (get_or s.sets t no_set) run.mark n n k one_known kk b e l is h.so_far w.one w.to (sym (f ∙ h.ready.flags.begins t w.on)) z in
       record {
         ready = h.ready;
         held = subst (λ y. n.live y ≡ Some (state Back (get_or s.sets y no_set))) (sym to) w.there;
-        so_far = subst (λ y. BackSoFar X m r run'.at (get_or s.sets y no_set) run'.start n kk) (sym to) (subst (λ y. BackSoFar X m r run'.at (get_or s.sets t no_set) y n kk) (sym o) next);
+        so_far = subst (λ y. BackSoFar X m r run'.at (get_or s.sets y no_set) run'.mark n kk) (sym to) (subst (λ y. BackSoFar X m r run'.at (get_or s.sets t no_set) y n kk) (sym o) next);
       }
 
   -- a run from a scan, and a scan from a run
-  pub riding_from : (s : Searcher M S P) (m : Memory PositionSet) (r : List Sym) (scan : BackScan) (run : BackRun) (p : ℕ) → scan.cursor.place ≡ Some p → run.place ≡ p → run.at ≡ scan.at → run.start ≡ scan.start → Backed automaton shelf policy m r scan s → RidingBack automaton shelf policy m r run (tallied scan.counts) s
+  pub riding_from : (s : Searcher M S P) (m : Memory PositionSet) (r : List Sym) (scan : Scan (Option ℕ)) (run : Run (Option ℕ)) (p : ℕ) → scan.cursor.place ≡ Some p → run.place ≡ p → run.at ≡ scan.at → run.mark ≡ scan.mark → Backed automaton shelf policy m r scan s → RidingBack automaton shelf policy m r run (tallied scan.counts) s
   riding_from s m r scan run p is at_place at st h =
       let X = subject automaton s in
       let n = memory shelf policy s in
@@ -86,13 +84,13 @@ module _ {M S P Sym : Type 0} (automaton : AutomatonMeaning M Sym) (shelf : Shel
       record {
         ready = h.ready;
         held = subst (λ y. n.live y ≡ Some (state Back (get_or s.sets y no_set))) (sym at_place) (here ∙ ap (λ x. Some (state Back x)) (sym set));
-        so_far = subst (λ y. BackSoFar X m r run.at (get_or s.sets y no_set) run.start n (tallied scan.counts)) (sym at_place)
-            (subst (λ y. BackSoFar X m r run.at y run.start n (tallied scan.counts)) (sym set)
-            (subst (λ y. BackSoFar X m r y scan.cursor.set run.start n (tallied scan.counts)) (sym at)
+        so_far = subst (λ y. BackSoFar X m r run.at (get_or s.sets y no_set) run.mark n (tallied scan.counts)) (sym at_place)
+            (subst (λ y. BackSoFar X m r run.at y run.mark n (tallied scan.counts)) (sym set)
+            (subst (λ y. BackSoFar X m r y scan.cursor.set run.mark n (tallied scan.counts)) (sym at)
             (subst (λ y. BackSoFar X m r scan.at scan.cursor.set y n (tallied scan.counts)) (sym st) h.so_far)));
       }
 
-  pub backed_from : (s : Searcher M S P) (q : P) (m : Memory PositionSet) (r : List Sym) (scan : BackScan) (run : BackRun) (k : Tallies) → policy.live q ≡ policy.live s.policy → scan.cursor.set ≡ get_or s.sets run.place no_set → scan.cursor.place ≡ Some run.place → scan.at ≡ run.at → scan.start ≡ run.start → tallied scan.counts ≡ k → RidingBack automaton shelf policy m r run k s → Backed automaton shelf policy m r scan (with_policy s q)
+  pub backed_from : (s : Searcher M S P) (q : P) (m : Memory PositionSet) (r : List Sym) (scan : Scan (Option ℕ)) (run : Run (Option ℕ)) (k : Tallies) → policy.live q ≡ policy.live s.policy → scan.cursor.set ≡ get_or s.sets run.place no_set → scan.cursor.place ≡ Some run.place → scan.at ≡ run.at → scan.mark ≡ run.mark → tallied scan.counts ≡ k → RidingBack automaton shelf policy m r run k s → Backed automaton shelf policy m r scan (with_policy s q)
   backed_from s q m r scan run k told set place at st z h =
       let X = subject automaton s in
       let n = memory shelf policy s in
@@ -103,14 +101,14 @@ module _ {M S P Sym : Type 0} (automaton : AutomatonMeaning M Sym) (shelf : Shel
         held = λ p e.
             let pp : run.place ≡ p = some_one run.place p (sym place ∙ e) in
             ap n.live (sym pp) ∙ h.held ∙ ap (λ x. Some (state Back x)) (sym set);
-        so_far = subst (λ y. BackSoFar X m r scan.at scan.cursor.set scan.start y (tallied scan.counts)) (sym same)
-            (subst (λ y. BackSoFar X m r scan.at scan.cursor.set scan.start n y) (sym z)
-            (subst (λ y. BackSoFar X m r y scan.cursor.set scan.start n k) (sym at)
-            (subst (λ y. BackSoFar X m r run.at y scan.start n k) (sym set)
+        so_far = subst (λ y. BackSoFar X m r scan.at scan.cursor.set scan.mark y (tallied scan.counts)) (sym same)
+            (subst (λ y. BackSoFar X m r scan.at scan.cursor.set scan.mark n y) (sym z)
+            (subst (λ y. BackSoFar X m r y scan.cursor.set scan.mark n k) (sym at)
+            (subst (λ y. BackSoFar X m r run.at y scan.mark n k) (sym set)
             (subst (λ y. BackSoFar X m r run.at (get_or s.sets run.place no_set) y n k) (sym st) h.so_far))));
       }
 
-  pub riding_ahead_next : (s : Searcher M S P) (m : Memory PositionSet) (r : List Sym) (from : ℕ) (run run' : AheadRun) (k kk : Tallies) (a : Sym) (c t : ℕ) (b : Bool) → run'.at ≡ run.at + 1 → run.at < length r → member s.empties run.place ≡ false → a ≡ get_or r run.at a → (subject automaton s).fit a ≡ true → c ≡ (subject automaton s).class_of a → Some t ≡ shelf.steps s.shelf run.place c → run'.place ≡ t → b ≡ member s.ends t → run'.end ≡ cond b (run.at + 1) run.end → kk ≡ both k one_known → RidingAhead automaton shelf policy m r from run k s → RidingAhead automaton shelf policy m r from run' kk s
+  pub riding_ahead_next : (s : Searcher M S P) (m : Memory PositionSet) (r : List Sym) (from : ℕ) (run run' : Run ℕ) (k kk : Tallies) (a : Sym) (c t : ℕ) (b : Bool) → run'.at ≡ run.at + 1 → run.at < length r → member s.empties run.place ≡ false → a ≡ get_or r run.at a → (subject automaton s).fit a ≡ true → c ≡ (subject automaton s).class_of a → Some t ≡ shelf.steps s.shelf run.place c → run'.place ≡ t → b ≡ member s.ends t → run'.mark ≡ cond b (run.at + 1) run.mark → kk ≡ both k one_known → RidingAhead automaton shelf policy m r from run k s → RidingAhead automaton shelf policy m r from run' kk s
   riding_ahead_next s m r from run run' k kk a c t b e l live is fit cl know to f o z h =
       let X = subject automaton s in
       let n = memory shelf policy s in
@@ -118,17 +116,17 @@ module _ {M S P Sym : Type 0} (automaton : AutomatonMeaning M Sym) (shelf : Shel
       let w = step s Ahead p a c t h.ready fit cl know h.held in
       let on = (is_here (member s.live) (member s.back) s.sets p (get_or s.sets p no_set) Ahead h.held).on in
       let going : X.machine.empty (get_or s.sets p no_set) ≡ false = sym (h.ready.flags.empties p on) ∙ live in
-      let next : AheadSoFar X m r from (run.at + 1) (get_or s.sets t no_set) (cond b (run.at + 1) run.end) n kk =
-      ahead_next X (laws s.automaton.now) m r from run.at a (get_or s.sets p no_set) (get_or s.sets t no_set) run.end n n k one_known kk b l is going h.so_far w.one w.to (sym (f ∙ h.ready.flags.ends t w.on)) z in
+      let next : AheadSoFar X m r from (run.at + 1) (get_or s.sets t no_set) (cond b (run.at + 1) run.mark) n kk =
+      ahead_next X (laws s.automaton.now) m r from run.at a (get_or s.sets p no_set) (get_or s.sets t no_set) run.mark n n k one_known kk b l is going h.so_far w.one w.to (sym (f ∙ h.ready.flags.ends t w.on)) z in
       record {
         ready = h.ready;
         held = subst (λ y. n.live y ≡ Some (state Ahead (get_or s.sets y no_set))) (sym to) w.there;
-        so_far = subst (λ y. AheadSoFar X m r from run'.at (get_or s.sets y no_set) run'.end n kk) (sym to)
+        so_far = subst (λ y. AheadSoFar X m r from run'.at (get_or s.sets y no_set) run'.mark n kk) (sym to)
             (subst (λ y. AheadSoFar X m r from run'.at (get_or s.sets t no_set) y n kk) (sym o)
-            (subst (λ y. AheadSoFar X m r from y (get_or s.sets t no_set) (cond b (run.at + 1) run.end) n kk) (sym e) next));
+            (subst (λ y. AheadSoFar X m r from y (get_or s.sets t no_set) (cond b (run.at + 1) run.mark) n kk) (sym e) next));
       }
 
-  pub riding_ahead_from : (s : Searcher M S P) (m : Memory PositionSet) (r : List Sym) (from : ℕ) (scan : AheadScan) (run : AheadRun) (p : ℕ) → scan.cursor.place ≡ Some p → run.place ≡ p → run.at ≡ scan.at → run.end ≡ scan.end → Aheaded automaton shelf policy m r from scan s → RidingAhead automaton shelf policy m r from run (tallied scan.counts) s
+  pub riding_ahead_from : (s : Searcher M S P) (m : Memory PositionSet) (r : List Sym) (from : ℕ) (scan : Scan ℕ) (run : Run ℕ) (p : ℕ) → scan.cursor.place ≡ Some p → run.place ≡ p → run.at ≡ scan.at → run.mark ≡ scan.mark → Aheaded automaton shelf policy m r from scan s → RidingAhead automaton shelf policy m r from run (tallied scan.counts) s
   riding_ahead_from s m r from scan run p is at_place at st h =
       let X = subject automaton s in
       let n = memory shelf policy s in
@@ -137,13 +135,13 @@ module _ {M S P Sym : Type 0} (automaton : AutomatonMeaning M Sym) (shelf : Shel
       record {
         ready = h.ready;
         held = subst (λ y. n.live y ≡ Some (state Ahead (get_or s.sets y no_set))) (sym at_place) (here ∙ ap (λ x. Some (state Ahead x)) (sym set));
-        so_far = subst (λ y. AheadSoFar X m r from run.at (get_or s.sets y no_set) run.end n (tallied scan.counts)) (sym at_place)
-            (subst (λ y. AheadSoFar X m r from run.at y run.end n (tallied scan.counts)) (sym set)
-            (subst (λ y. AheadSoFar X m r from y scan.cursor.set run.end n (tallied scan.counts)) (sym at)
+        so_far = subst (λ y. AheadSoFar X m r from run.at (get_or s.sets y no_set) run.mark n (tallied scan.counts)) (sym at_place)
+            (subst (λ y. AheadSoFar X m r from run.at y run.mark n (tallied scan.counts)) (sym set)
+            (subst (λ y. AheadSoFar X m r from y scan.cursor.set run.mark n (tallied scan.counts)) (sym at)
             (subst (λ y. AheadSoFar X m r from scan.at scan.cursor.set y n (tallied scan.counts)) (sym st) h.so_far)));
       }
 
-  pub aheaded_from : (s : Searcher M S P) (q : P) (m : Memory PositionSet) (r : List Sym) (from : ℕ) (scan : AheadScan) (run : AheadRun) (k : Tallies) → policy.live q ≡ policy.live s.policy → scan.cursor.set ≡ get_or s.sets run.place no_set → scan.cursor.place ≡ Some run.place → scan.at ≡ run.at → scan.end ≡ run.end → tallied scan.counts ≡ k → RidingAhead automaton shelf policy m r from run k s → Aheaded automaton shelf policy m r from scan (with_policy s q)
+  pub aheaded_from : (s : Searcher M S P) (q : P) (m : Memory PositionSet) (r : List Sym) (from : ℕ) (scan : Scan ℕ) (run : Run ℕ) (k : Tallies) → policy.live q ≡ policy.live s.policy → scan.cursor.set ≡ get_or s.sets run.place no_set → scan.cursor.place ≡ Some run.place → scan.at ≡ run.at → scan.mark ≡ run.mark → tallied scan.counts ≡ k → RidingAhead automaton shelf policy m r from run k s → Aheaded automaton shelf policy m r from scan (with_policy s q)
   aheaded_from s q m r from scan run k told set place at st z h =
       let X = subject automaton s in
       let n = memory shelf policy s in
@@ -154,9 +152,9 @@ module _ {M S P Sym : Type 0} (automaton : AutomatonMeaning M Sym) (shelf : Shel
         held = λ p e.
             let pp : run.place ≡ p = some_one run.place p (sym place ∙ e) in
             ap n.live (sym pp) ∙ h.held ∙ ap (λ x. Some (state Ahead x)) (sym set);
-        so_far = subst (λ y. AheadSoFar X m r from scan.at scan.cursor.set scan.end y (tallied scan.counts)) (sym same)
-            (subst (λ y. AheadSoFar X m r from scan.at scan.cursor.set scan.end n y) (sym z)
-            (subst (λ y. AheadSoFar X m r from y scan.cursor.set scan.end n k) (sym at)
-            (subst (λ y. AheadSoFar X m r from run.at y scan.end n k) (sym set)
+        so_far = subst (λ y. AheadSoFar X m r from scan.at scan.cursor.set scan.mark y (tallied scan.counts)) (sym same)
+            (subst (λ y. AheadSoFar X m r from scan.at scan.cursor.set scan.mark n y) (sym z)
+            (subst (λ y. AheadSoFar X m r from y scan.cursor.set scan.mark n k) (sym at)
+            (subst (λ y. AheadSoFar X m r from run.at y scan.mark n k) (sym set)
             (subst (λ y. AheadSoFar X m r from run.at (get_or s.sets run.place no_set) y n k) (sym st) h.so_far))));
       }

@@ -17,8 +17,7 @@ use Rattle.law.proofs.Readings.{reading}
 use Rattle.law.proofs.Walks.{walk_snoc}
 use Rattle.automaton.specs.declared.automaton.Automaton.{Ghosts as AutomatonMeaning}
 use Rattle.search.specs.declared.searcher.Searcher.{Searcher}
-use Rattle.search.specs.declared.searcher.BackScan.{BackScan}
-use Rattle.search.specs.declared.searcher.AheadScan.{AheadScan}
+use Rattle.search.specs.declared.searcher.Scan.{Scan}
 use Rattle.search.specs.declared.searcher.Move.{Move}
 use Rattle.search.specs.Counted.{tallied}
 use Rattle.search.specs.Remembered.{read, memory, subject, Flagged, Ready, Kept, At, Moved}
@@ -139,7 +138,7 @@ module _ {M S P Sym : Type 0} (automaton : AutomatonMeaning M Sym) (shelf : Shel
         flags = subst (λ y. Flagged (automaton.subject y.now).machine s') (sym k.automaton_same) (k.flags r.flags);
       }
 
-  pub backed_begun : (s : Searcher M S P) (r : List Sym) (scan : BackScan) → Ready automaton shelf policy s → scan.at ≡ length r → scan.cursor.set ≡ (subject automaton s).machine.begin → scan.cursor.place ≡ None → scan.start ≡ None → tallied scan.counts ≡ zeros → Backed automaton shelf policy (memory shelf policy s) r scan s
+  pub backed_begun : (s : Searcher M S P) (r : List Sym) (scan : Scan (Option ℕ)) → Ready automaton shelf policy s → scan.at ≡ length r → scan.cursor.set ≡ (subject automaton s).machine.begin → scan.cursor.place ≡ None → scan.mark ≡ None → tallied scan.counts ≡ zeros → Backed automaton shelf policy (memory shelf policy s) r scan s
   backed_begun s r scan ready e b p o z =
       record {
         ready = ready;
@@ -150,7 +149,7 @@ module _ {M S P Sym : Type 0} (automaton : AutomatonMeaning M Sym) (shelf : Shel
       none_some : (q : ℕ) → None ≡ Some q → ⊥
       none_some q h = let z : ◌≡◌ {A = ℕ} 0 1 = cc in omega arith
 
-  pub backed_next : (s s' : Searcher M S P) (m : Memory PositionSet) (r : List Sym) (scan scan' : BackScan) (a : Sym) (move : Move) (b : Bool) → Kept automaton shelf s s' → scan.at ≡ scan'.at + 1 → scan'.at < length r → a ≡ get_or r scan'.at a → (Ready automaton shelf policy s → At Back (memory shelf policy s) scan.cursor → Moved (subject automaton s) (memory shelf policy s) Back scan.cursor.set a (memory shelf policy s') move) → scan'.cursor ≡ move.cursor → b ≡ (subject automaton s').machine.first move.cursor.set → scan'.start ≡ cond b (Some scan'.at) scan.start → tallied scan'.counts ≡ both (tallied scan.counts) (tallied move.counts) → Backed automaton shelf policy m r scan s → Backed automaton shelf policy m r scan' s'
+  pub backed_next : (s s' : Searcher M S P) (m : Memory PositionSet) (r : List Sym) (scan scan' : Scan (Option ℕ)) (a : Sym) (move : Move) (b : Bool) → Kept automaton shelf s s' → scan.at ≡ scan'.at + 1 → scan'.at < length r → a ≡ get_or r scan'.at a → (Ready automaton shelf policy s → At Back (memory shelf policy s) scan.cursor → Moved (subject automaton s) (memory shelf policy s) Back scan.cursor.set a (memory shelf policy s') move) → scan'.cursor ≡ move.cursor → b ≡ (subject automaton s').machine.first move.cursor.set → scan'.mark ≡ cond b (Some scan'.at) scan.mark → tallied scan'.counts ≡ both (tallied scan.counts) (tallied move.counts) → Backed automaton shelf policy m r scan s → Backed automaton shelf policy m r scan' s'
   backed_next s s' m r scan scan' a move b k e l is go cur f o z h =
       let X = subject automaton s in
       let law : Proper X = laws s.automaton.now in
@@ -158,31 +157,31 @@ module _ {M S P Sym : Type 0} (automaton : AutomatonMeaning M Sym) (shelf : Shel
       let n' = memory shelf policy s' in
       let ok : Sound X n' = (reading X law (memory shelf policy s) (read Back scan.cursor.set a) n' (tallied move.counts) h.ready.sound w.one).sound in
       let first : X.machine.first move.cursor.set ≡ b = sym (f ∙ ap (λ y. (automaton.subject y.now).machine.first move.cursor.set) k.automaton_same) in
-      let far : BackSoFar X m r scan'.at move.cursor.set (cond b (Some scan'.at) scan.start) n' (tallied scan'.counts) =
-      back_next X m r scan'.at scan.at a scan.cursor.set move.cursor.set scan.start (memory shelf policy s) n' (tallied scan.counts) (tallied move.counts) (tallied scan'.counts) b e l is h.so_far w.one w.to first z in
+      let far : BackSoFar X m r scan'.at move.cursor.set (cond b (Some scan'.at) scan.mark) n' (tallied scan'.counts) =
+      back_next X m r scan'.at scan.at a scan.cursor.set move.cursor.set scan.mark (memory shelf policy s) n' (tallied scan.counts) (tallied move.counts) (tallied scan'.counts) b e l is h.so_far w.one w.to first z in
       record {
         ready = ready_next s s' h.ready k ok;
         held = subst (λ y. At Back n' y) (sym cur) w.at;
-        so_far = subst (λ y. BackSoFar (automaton.subject y.now) m r scan'.at scan'.cursor.set scan'.start n' (tallied scan'.counts)) (sym k.automaton_same)
-            (subst (λ y. BackSoFar X m r scan'.at y.set scan'.start n' (tallied scan'.counts)) (sym cur)
+        so_far = subst (λ y. BackSoFar (automaton.subject y.now) m r scan'.at scan'.cursor.set scan'.mark n' (tallied scan'.counts)) (sym k.automaton_same)
+            (subst (λ y. BackSoFar X m r scan'.at y.set scan'.mark n' (tallied scan'.counts)) (sym cur)
             (subst (λ y. BackSoFar X m r scan'.at move.cursor.set y n' (tallied scan'.counts)) (sym o) far));
       }
 
-  pub aheaded_begun : (s : Searcher M S P) (r : List Sym) (from : ℕ) (scan : AheadScan) → Ready automaton shelf policy s → scan.at ≡ from → scan.end ≡ from → scan.cursor.set ≡ (subject automaton s).machine.begin → scan.cursor.place ≡ None → tallied scan.counts ≡ zeros → Aheaded automaton shelf policy (memory shelf policy s) r from scan s
+  pub aheaded_begun : (s : Searcher M S P) (r : List Sym) (from : ℕ) (scan : Scan ℕ) → Ready automaton shelf policy s → scan.at ≡ from → scan.mark ≡ from → scan.cursor.set ≡ (subject automaton s).machine.begin → scan.cursor.place ≡ None → tallied scan.counts ≡ zeros → Aheaded automaton shelf policy (memory shelf policy s) r from scan s
   aheaded_begun s r from scan ready e f b p z =
       let X = subject automaton s in
       let m = memory shelf policy s in
       record {
         ready = ready;
         held = λ q h. absurd (none_some q (sym p ∙ h));
-        so_far = subst (λ y. AheadSoFar X m r from y scan.cursor.set scan.end m (tallied scan.counts)) (sym e)
+        so_far = subst (λ y. AheadSoFar X m r from y scan.cursor.set scan.mark m (tallied scan.counts)) (sym e)
             (subst (λ y. AheadSoFar X m r from from scan.cursor.set y m (tallied scan.counts)) (sym f) (ahead_begun X (laws s.automaton.now) m r from scan.cursor.set (tallied scan.counts) b z));
       }
     where
       none_some : (q : ℕ) → None ≡ Some q → ⊥
       none_some q h = let z : ◌≡◌ {A = ℕ} 0 1 = cc in omega arith
 
-  pub aheaded_next : (s s' : Searcher M S P) (m : Memory PositionSet) (r : List Sym) (from : ℕ) (scan scan' : AheadScan) (a : Sym) (move : Move) (l : Bool) → Kept automaton shelf s s' → scan'.at ≡ scan.at + 1 → scan.at < length r → a ≡ get_or r scan.at a → (Ready automaton shelf policy s → At Ahead (memory shelf policy s) scan.cursor → Moved (subject automaton s) (memory shelf policy s) Ahead scan.cursor.set a (memory shelf policy s') move) → scan'.cursor ≡ move.cursor → l ≡ (subject automaton s').machine.last move.cursor.set → scan'.end ≡ cond l (scan.at + 1) scan.end → tallied scan'.counts ≡ both (tallied scan.counts) (tallied move.counts) → (subject automaton s).machine.empty scan.cursor.set ≡ false → Aheaded automaton shelf policy m r from scan s → Aheaded automaton shelf policy m r from scan' s'
+  pub aheaded_next : (s s' : Searcher M S P) (m : Memory PositionSet) (r : List Sym) (from : ℕ) (scan scan' : Scan ℕ) (a : Sym) (move : Move) (l : Bool) → Kept automaton shelf s s' → scan'.at ≡ scan.at + 1 → scan.at < length r → a ≡ get_or r scan.at a → (Ready automaton shelf policy s → At Ahead (memory shelf policy s) scan.cursor → Moved (subject automaton s) (memory shelf policy s) Ahead scan.cursor.set a (memory shelf policy s') move) → scan'.cursor ≡ move.cursor → l ≡ (subject automaton s').machine.last move.cursor.set → scan'.mark ≡ cond l (scan.at + 1) scan.mark → tallied scan'.counts ≡ both (tallied scan.counts) (tallied move.counts) → (subject automaton s).machine.empty scan.cursor.set ≡ false → Aheaded automaton shelf policy m r from scan s → Aheaded automaton shelf policy m r from scan' s'
   aheaded_next s s' m r from scan scan' a move l k e lt is go cur f o z live h =
       let X = subject automaton s in
       let law : Proper X = laws s.automaton.now in
@@ -190,18 +189,18 @@ module _ {M S P Sym : Type 0} (automaton : AutomatonMeaning M Sym) (shelf : Shel
       let n' = memory shelf policy s' in
       let ok : Sound X n' = (reading X law (memory shelf policy s) (read Ahead scan.cursor.set a) n' (tallied move.counts) h.ready.sound w.one).sound in
       let last : X.machine.last move.cursor.set ≡ l = sym (f ∙ ap (λ y. (automaton.subject y.now).machine.last move.cursor.set) k.automaton_same) in
-      let next : AheadSoFar X m r from (scan.at + 1) move.cursor.set (cond l (scan.at + 1) scan.end) n' (tallied scan'.counts) =
-      ahead_next X law m r from scan.at a scan.cursor.set move.cursor.set scan.end (memory shelf policy s) n' (tallied scan.counts) (tallied move.counts) (tallied scan'.counts) l lt is live h.so_far w.one w.to last z in
+      let next : AheadSoFar X m r from (scan.at + 1) move.cursor.set (cond l (scan.at + 1) scan.mark) n' (tallied scan'.counts) =
+      ahead_next X law m r from scan.at a scan.cursor.set move.cursor.set scan.mark (memory shelf policy s) n' (tallied scan.counts) (tallied move.counts) (tallied scan'.counts) l lt is live h.so_far w.one w.to last z in
       record {
         ready = ready_next s s' h.ready k ok;
         held = subst (λ y. At Ahead n' y) (sym cur) w.at;
-        so_far = subst (λ y. AheadSoFar (automaton.subject y.now) m r from scan'.at scan'.cursor.set scan'.end n' (tallied scan'.counts)) (sym k.automaton_same)
-            (subst (λ y. AheadSoFar X m r from scan'.at y.set scan'.end n' (tallied scan'.counts)) (sym cur)
+        so_far = subst (λ y. AheadSoFar (automaton.subject y.now) m r from scan'.at scan'.cursor.set scan'.mark n' (tallied scan'.counts)) (sym k.automaton_same)
+            (subst (λ y. AheadSoFar X m r from scan'.at y.set scan'.mark n' (tallied scan'.counts)) (sym cur)
             (subst (λ y. AheadSoFar X m r from scan'.at move.cursor.set y n' (tallied scan'.counts)) (sym o)
-            (subst (λ y. AheadSoFar X m r from y move.cursor.set (cond l (scan.at + 1) scan.end) n' (tallied scan'.counts)) (sym e) next)));
+            (subst (λ y. AheadSoFar X m r from y move.cursor.set (cond l (scan.at + 1) scan.mark) n' (tallied scan'.counts)) (sym e) next)));
       }
 
-  pub reached : (s : Searcher M S P) (m : Memory PositionSet) (r : List Sym) (from : ℕ) (scan : AheadScan) → scan.at ≤ length r → (ltb scan.at (length r) && not ((subject automaton s).machine.empty scan.cursor.set)) ≡ false → Aheaded automaton shelf policy m r from scan s → Reached automaton shelf policy m r from scan s
+  pub reached : (s : Searcher M S P) (m : Memory PositionSet) (r : List Sym) (from : ℕ) (scan : Scan ℕ) → scan.at ≤ length r → (ltb scan.at (length r) && not ((subject automaton s).machine.empty scan.cursor.set)) ≡ false → Aheaded automaton shelf policy m r from scan s → Reached automaton shelf policy m r from scan s
   reached s m r from scan l e h =
-      let o = ahead_over (subject automaton s) m r from scan.at scan.cursor.set scan.end (memory shelf policy s) (tallied scan.counts) l e h.so_far in
+      let o = ahead_over (subject automaton s) m r from scan.at scan.cursor.set scan.mark (memory shelf policy s) (tallied scan.counts) l e h.so_far in
       record { ready = h.ready; walk = o.walk; end_is = o.end_is }

@@ -13,10 +13,8 @@ use Rattle.law.specs.Memory.{Memory}
 use Rattle.law.specs.Reading.{Counts as Tallies, Walk}
 use Rattle.automaton.specs.declared.automaton.Automaton.{Ghosts as AutomatonMeaning}
 use Rattle.search.specs.declared.searcher.Searcher.{Searcher}
-use Rattle.search.specs.declared.searcher.BackScan.{BackScan}
-use Rattle.search.specs.declared.searcher.BackRun.{BackRun}
-use Rattle.search.specs.declared.searcher.AheadScan.{AheadScan}
-use Rattle.search.specs.declared.searcher.AheadRun.{AheadRun}
+use Rattle.search.specs.declared.searcher.Scan.{Scan}
+use Rattle.search.specs.declared.searcher.Run.{Run}
 use Rattle.search.specs.declared.answer.Found.{Found}
 use Rattle.search.specs.declared.answer.Listed.{Listed}
 use Rattle.search.specs.declared.counts.Counts.{Counts}
@@ -29,21 +27,21 @@ pub record BackSoFar {Sym : Type 0} (X : Subject Sym PositionSet) (m : Memory Po
   pub start_is : o ≡ start X.machine at (drop at r)
   pub walk : Walk X m (back_reads X.machine (drop at r)) n k
 
-pub record Backed {M S P Sym : Type 0} (automaton : AutomatonMeaning M Sym) (shelf : ShelfMeaning S) (policy : PolicyMeaning P) (m : Memory PositionSet) (r : List Sym) (scan : BackScan) (s : Searcher M S P) : Type 0 where
+pub record Backed {M S P Sym : Type 0} (automaton : AutomatonMeaning M Sym) (shelf : ShelfMeaning S) (policy : PolicyMeaning P) (m : Memory PositionSet) (r : List Sym) (scan : Scan (Option ℕ)) (s : Searcher M S P) : Type 0 where
   pub ready : Ready automaton shelf policy s
   pub held : At Back (memory shelf policy s) scan.cursor
-  pub so_far : BackSoFar (subject automaton s) m r scan.at scan.cursor.set scan.start (memory shelf policy s) (tallied scan.counts)
+  pub so_far : BackSoFar (subject automaton s) m r scan.at scan.cursor.set scan.mark (memory shelf policy s) (tallied scan.counts)
 
 -- the same of a run over known steps, whose set stands at its place
-pub record RidingBack {M S P Sym : Type 0} (automaton : AutomatonMeaning M Sym) (shelf : ShelfMeaning S) (policy : PolicyMeaning P) (m : Memory PositionSet) (r : List Sym) (run : BackRun) (k : Tallies) (s : Searcher M S P) : Type 0 where
+pub record RidingBack {M S P Sym : Type 0} (automaton : AutomatonMeaning M Sym) (shelf : ShelfMeaning S) (policy : PolicyMeaning P) (m : Memory PositionSet) (r : List Sym) (run : Run (Option ℕ)) (k : Tallies) (s : Searcher M S P) : Type 0 where
   pub ready : Ready automaton shelf policy s
   pub held : (memory shelf policy s).live run.place ≡ Some (state Back (slice_index_or s.sets run.place no_set))
-  pub so_far : BackSoFar (subject automaton s) m r run.at (slice_index_or s.sets run.place no_set) run.start (memory shelf policy s) k
+  pub so_far : BackSoFar (subject automaton s) m r run.at (slice_index_or s.sets run.place no_set) run.mark (memory shelf policy s) k
 
 -- the numbers of a scan back over a record of n symbols
-pub record BackWithin (n : ℕ) (scan : BackScan) : Type 0 where
+pub record BackWithin (n : ℕ) (scan : Scan (Option ℕ)) : Type 0 where
   pub at : scan.at ≤ n
-  pub start : IfSome scan.start (λ s. (scan.at ≤ s) × (s ≤ n))
+  pub start : IfSome scan.mark (λ s. (scan.at ≤ s) × (s ≤ n))
   pub counts : Bounded (n - scan.at) scan.counts
 
 -- ahead from the place `from` of the record r, from the memory m to n: at `at` the set is S and the longest word ends at `end`;
@@ -54,28 +52,28 @@ pub record AheadSoFar {Sym : Type 0} (X : Subject Sym PositionSet) (m : Memory P
   pub rest : ahead_reads X.machine X.machine.begin (drop from r) ≡ done ++ cond (X.machine.empty S) [] (ahead_reads X.machine S (drop at r))
   pub end_is : far X.machine from from X.machine.begin (drop from r) ≡ cond (X.machine.empty S) end (far X.machine end at S (drop at r))
 
-pub record Aheaded {M S P Sym : Type 0} (automaton : AutomatonMeaning M Sym) (shelf : ShelfMeaning S) (policy : PolicyMeaning P) (m : Memory PositionSet) (r : List Sym) (from : ℕ) (scan : AheadScan) (s : Searcher M S P) : Type 0 where
+pub record Aheaded {M S P Sym : Type 0} (automaton : AutomatonMeaning M Sym) (shelf : ShelfMeaning S) (policy : PolicyMeaning P) (m : Memory PositionSet) (r : List Sym) (from : ℕ) (scan : Scan ℕ) (s : Searcher M S P) : Type 0 where
   pub ready : Ready automaton shelf policy s
   pub held : At Ahead (memory shelf policy s) scan.cursor
-  pub so_far : AheadSoFar (subject automaton s) m r from scan.at scan.cursor.set scan.end (memory shelf policy s) (tallied scan.counts)
+  pub so_far : AheadSoFar (subject automaton s) m r from scan.at scan.cursor.set scan.mark (memory shelf policy s) (tallied scan.counts)
 
 -- the same of a run over known steps, whose set stands at its place
-pub record RidingAhead {M S P Sym : Type 0} (automaton : AutomatonMeaning M Sym) (shelf : ShelfMeaning S) (policy : PolicyMeaning P) (m : Memory PositionSet) (r : List Sym) (from : ℕ) (run : AheadRun) (k : Tallies) (s : Searcher M S P) : Type 0 where
+pub record RidingAhead {M S P Sym : Type 0} (automaton : AutomatonMeaning M Sym) (shelf : ShelfMeaning S) (policy : PolicyMeaning P) (m : Memory PositionSet) (r : List Sym) (from : ℕ) (run : Run ℕ) (k : Tallies) (s : Searcher M S P) : Type 0 where
   pub ready : Ready automaton shelf policy s
   pub held : (memory shelf policy s).live run.place ≡ Some (state Ahead (slice_index_or s.sets run.place no_set))
-  pub so_far : AheadSoFar (subject automaton s) m r from run.at (slice_index_or s.sets run.place no_set) run.end (memory shelf policy s) k
+  pub so_far : AheadSoFar (subject automaton s) m r from run.at (slice_index_or s.sets run.place no_set) run.mark (memory shelf policy s) k
 
 -- the numbers of a scan ahead over a record of n symbols
-pub record AheadWithin (n : ℕ) (scan : AheadScan) : Type 0 where
+pub record AheadWithin (n : ℕ) (scan : Scan ℕ) : Type 0 where
   pub at : scan.at ≤ n
-  pub end : scan.end ≤ n
+  pub end : scan.mark ≤ n
   pub counts : Bounded scan.at scan.counts
 
 -- a scan ahead is over: its reads are those of the definition, and so is the end
-pub record Reached {M S P Sym : Type 0} (automaton : AutomatonMeaning M Sym) (shelf : ShelfMeaning S) (policy : PolicyMeaning P) (m : Memory PositionSet) (r : List Sym) (from : ℕ) (scan : AheadScan) (s : Searcher M S P) : Type 0 where
+pub record Reached {M S P Sym : Type 0} (automaton : AutomatonMeaning M Sym) (shelf : ShelfMeaning S) (policy : PolicyMeaning P) (m : Memory PositionSet) (r : List Sym) (from : ℕ) (scan : Scan ℕ) (s : Searcher M S P) : Type 0 where
   pub ready : Ready automaton shelf policy s
   pub walk : Walk (subject automaton s) m (ahead_reads (subject automaton s).machine (subject automaton s).machine.begin (drop from r)) (memory shelf policy s) (tallied scan.counts)
-  pub end_is : scan.end ≡ far (subject automaton s).machine from from (subject automaton s).machine.begin (drop from r)
+  pub end_is : scan.mark ≡ far (subject automaton s).machine from from (subject automaton s).machine.begin (drop from r)
 
 -- a find is over
 pub record Located {M S P Sym : Type 0} (automaton : AutomatonMeaning M Sym) (shelf : ShelfMeaning S) (policy : PolicyMeaning P) (m : Memory PositionSet) (r : List Sym) (from : ℕ) (found : Found) (s : Searcher M S P) : Type 0 where

@@ -52,39 +52,23 @@ struct Move {
     counts: Counts,
 }
 
-// A scan back that has come to a place of the record, and the smallest place so far at which a word begins.
+// A scan that has come to a place of the record. Its mark is, back, the smallest place so far at which a word begins,
+// and ahead the end of the longest word so far.
 #[derive(Clone, Copy)]
-struct BackScan {
+struct Scan<T> {
     at: usize,
     cursor: Cursor,
-    start: Option<usize>,
+    mark: T,
     counts: Counts,
 }
 
-// A scan ahead that has come to a place of the record, and the end of the longest word so far.
+// A run of a scan over steps that the shelf knows: how far it has come, the place of its set, the scan's mark, and the
+// places that it met.
 #[derive(Clone, Copy)]
-struct AheadScan {
-    at: usize,
-    cursor: Cursor,
-    end: usize,
-    counts: Counts,
-}
-
-// A run over steps that the shelf knows: how far it has come, the place of its set, where the word that it looks for
-// begins or ends so far, and the places that it met.
-#[derive(Clone, Copy)]
-struct BackRun {
+struct Run<T> {
     at: usize,
     place: u8,
-    start: Option<usize>,
-    met: PlaceSet,
-}
-
-#[derive(Clone, Copy)]
-struct AheadRun {
-    at: usize,
-    place: u8,
-    end: usize,
+    mark: T,
     met: PlaceSet,
 }
 

@@ -11,7 +11,7 @@ ghost use Rattle.search.specs.Heard.{Passed, RideHeard};
 ghost use Rattle.search.specs.Scanning.{Aheaded, AheadWithin, RidingAhead, Reached};
 
 use crate::counts::Counts;
-use crate::searcher::{AheadRun, AheadScan, Cursor, Searcher};
+use crate::searcher::{Cursor, Run, Scan, Searcher};
 use automaton::Automaton;
 use memory::policy::Policy;
 use memory::shelf::Shelf;
@@ -26,7 +26,7 @@ fn end_at(ends: bool, at: usize, end: usize) -> usize
 
 impl<'p, M: Automaton, S: Shelf, P: Policy> Searcher<'p, M, S, P> {
     // Reads one symbol more.
-    fn read_ahead(&mut self, row: &[M::Symbol], scan: AheadScan) -> AheadScan
+    fn read_ahead(&mut self, row: &[M::Symbol], scan: Scan<usize>) -> Scan<usize>
         requires more { scan.at < length row.now }
         requires within { AheadWithin (length row.now) scan }
         requires short { length row.now ≤ 1048576 }
@@ -38,10 +38,10 @@ impl<'p, M: Automaton, S: Shelf, P: Policy> Searcher<'p, M, S, P> {
         let at = scan.at;
         let step = self.advance(Direction::Ahead, scan.cursor, row[at]);
         let ends = self.automaton.has_last(step.cursor.set);
-        AheadScan {
+        Scan {
             at: at + 1,
             cursor: step.cursor,
-            end: end_at(ends, at + 1, scan.end),
+            mark: end_at(ends, at + 1, scan.mark),
             counts: scan.counts.plus(step.counts),
         }
     }
@@ -54,18 +54,18 @@ impl<'p, M: Automaton, S: Shelf, P: Policy> Searcher<'p, M, S, P> {
     }
 
     // Reads on while steps are known. Nothing is written here, and a symbol costs one class and one look-up.
-    fn run_ahead(&self, row: &[M::Symbol], run: AheadRun) -> AheadRun
+    fn run_ahead(&self, row: &[M::Symbol], run: Run<usize>) -> Run<usize>
         requires within { run.at ≤ length row.now }
         ensures riding { (m : Memory PositionSet) (from : ℕ) (k : Tallies) → RidingAhead M.Automaton S.Shelf P.Policy m row.now from run k self.now → RidingAhead M.Automaton S.Shelf P.Policy m row.now from result (known_more k (result.at - run.at)) self.now }
         ensures ahead { run.at ≤ result.at }
         ensures within { result.at ≤ length row.now }
         ensures low { run.at < result.at → result.place < 64 }
         ensures passed { Passed (S.Shelf.steps self.now.shelf) (subject M.Automaton self.now).class_of row.now Ahead run.at run.place (member run.met) result.at result.place (member result.met) }
-        ensures end { run.end ≤ length row.now → result.end ≤ length row.now }
+        ensures end { run.mark ≤ length row.now → result.mark ≤ length row.now }
     {
         let mut at = run.at;
         let mut place = run.place;
-        let mut end = run.end;
+        let mut end = run.mark;
         let mut met = run.met;
         while self.runs_on(row, at, place) {
             let class = self.automaton.class_of(row[at]);
@@ -77,16 +77,16 @@ impl<'p, M: Automaton, S: Shelf, P: Policy> Searcher<'p, M, S, P> {
             met = met.with(next);
             end = end_at(self.ends.has(next), at, end);
         }
-        AheadRun {
+        Run {
             at,
             place,
-            end,
+            mark: end,
             met,
         }
     }
 
     // Reads on from a set that has a place while steps are known.
-    fn ride_ahead(&mut self, row: &[M::Symbol], scan: AheadScan) -> AheadScan
+    fn ride_ahead(&mut self, row: &[M::Symbol], scan: Scan<usize>) -> Scan<usize>
         requires within { AheadWithin (length row.now) scan }
         requires short { length row.now ≤ 1048576 }
         ensures aheaded { (m : Memory PositionSet) (from : ℕ) → Aheaded M.Automaton S.Shelf P.Policy m row.now from scan self.old → Aheaded M.Automaton S.Shelf P.Policy m row.now from result self.new }
@@ -98,10 +98,10 @@ impl<'p, M: Automaton, S: Shelf, P: Policy> Searcher<'p, M, S, P> {
         let Some(place) = scan.cursor.place else {
             return scan;
         };
-        let run = AheadRun {
+        let run = Run {
             at: scan.at,
             place,
-            end: scan.end,
+            mark: scan.mark,
             met: PlaceSet::single(place),
         };
         let last = self.run_ahead(row, run);
@@ -109,39 +109,39 @@ impl<'p, M: Automaton, S: Shelf, P: Policy> Searcher<'p, M, S, P> {
             return scan;
         }
         self.policy.touch(last.met);
-        AheadScan {
+        Scan {
             at: last.at,
             cursor: Cursor {
                 set: self.sets[last.place as usize],
                 place: Some(last.place),
             },
-            end: last.end,
+            mark: last.mark,
             counts: scan.counts.more_known(last.at - scan.at),
         }
     }
 
     // Is there a symbol to read, and a word that could go on?
-    fn goes_on(&self, row: &[M::Symbol], scan: AheadScan) -> bool
+    fn goes_on(&self, row: &[M::Symbol], scan: Scan<usize>) -> bool
         ensures { result ≡ (nat_lt scan.at (length row.now) && not ((subject M.Automaton self.now).machine.empty scan.cursor.set)) }
     {
         scan.at < row.len() && !self.automaton.is_empty(scan.cursor.set)
     }
 
     // Scans ahead from `start`, until the set is empty or the record ends.
-    pub(in crate::searcher) fn scan_ahead(&mut self, row: &[M::Symbol], start: usize) -> AheadScan
+    pub(in crate::searcher) fn scan_ahead(&mut self, row: &[M::Symbol], start: usize) -> Scan<usize>
         requires from { start ≤ length row.now }
         requires short { length row.now ≤ 1048576 }
         ensures reached { Ready M.Automaton S.Shelf P.Policy self.old → Reached M.Automaton S.Shelf P.Policy (memory S.Shelf P.Policy self.old) row.now start result self.new }
         ensures within { AheadWithin (length row.now) result }
         ensures automaton { self.new.automaton ≡ self.old.automaton }
     {
-        let mut scan = AheadScan {
+        let mut scan = Scan {
             at: start,
             cursor: Cursor {
                 set: self.automaton.begin(),
                 place: None,
             },
-            end: start,
+            mark: start,
             counts: Counts::default(),
         };
         while self.goes_on(row, scan) {

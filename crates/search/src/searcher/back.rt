@@ -11,7 +11,7 @@ ghost use Rattle.search.specs.Heard.{Passed, RideHeard};
 ghost use Rattle.search.specs.Scanning.{Backed, BackWithin, RidingBack};
 
 use crate::counts::Counts;
-use crate::searcher::{BackRun, BackScan, Cursor, Searcher};
+use crate::searcher::{Cursor, Run, Scan, Searcher};
 use automaton::Automaton;
 use memory::policy::Policy;
 use memory::shelf::Shelf;
@@ -26,7 +26,7 @@ fn start_at(begins: bool, at: usize, start: Option<usize>) -> Option<usize>
 
 impl<'p, M: Automaton, S: Shelf, P: Policy> Searcher<'p, M, S, P> {
     // Reads one symbol more.
-    fn read_back(&mut self, row: &[M::Symbol], scan: BackScan) -> BackScan
+    fn read_back(&mut self, row: &[M::Symbol], scan: Scan<Option<usize>>) -> Scan<Option<usize>>
         requires more { 0 < scan.at }
         requires within { BackWithin (length row.now) scan }
         requires short { length row.now ≤ 1048576 }
@@ -38,16 +38,21 @@ impl<'p, M: Automaton, S: Shelf, P: Policy> Searcher<'p, M, S, P> {
         let at = scan.at - 1;
         let step = self.advance(Direction::Back, scan.cursor, row[at]);
         let begins = self.automaton.has_first(step.cursor.set);
-        BackScan {
+        Scan {
             at,
             cursor: step.cursor,
-            start: start_at(begins, at, scan.start),
+            mark: start_at(begins, at, scan.mark),
             counts: scan.counts.plus(step.counts),
         }
     }
 
     // Reads on while steps are known. Nothing is written here, and a symbol costs one class and one look-up.
-    fn run_back(&self, row: &[M::Symbol], from: usize, run: BackRun) -> BackRun
+    fn run_back(
+        &self,
+        row: &[M::Symbol],
+        from: usize,
+        run: Run<Option<usize>>,
+    ) -> Run<Option<usize>>
         requires from { from ≤ run.at }
         requires within { run.at ≤ length row.now }
         ensures riding { (m : Memory PositionSet) (k : Tallies) → RidingBack M.Automaton S.Shelf P.Policy m row.now run k self.now → RidingBack M.Automaton S.Shelf P.Policy m row.now result (known_more k (run.at - result.at)) self.now }
@@ -55,11 +60,11 @@ impl<'p, M: Automaton, S: Shelf, P: Policy> Searcher<'p, M, S, P> {
         ensures ahead { result.at ≤ run.at }
         ensures low { result.at < run.at → result.place < 64 }
         ensures passed { Passed (S.Shelf.steps self.now.shelf) (subject M.Automaton self.now).class_of row.now Back run.at run.place (member run.met) result.at result.place (member result.met) }
-        ensures start { (n : ℕ) → run.at ≤ n → IfSome run.start (λ s. (run.at ≤ s) × (s ≤ n)) → IfSome result.start (λ s. (result.at ≤ s) × (s ≤ n)) }
+        ensures start { (n : ℕ) → run.at ≤ n → IfSome run.mark (λ s. (run.at ≤ s) × (s ≤ n)) → IfSome result.mark (λ s. (result.at ≤ s) × (s ≤ n)) }
     {
         let mut at = run.at;
         let mut place = run.place;
-        let mut start = run.start;
+        let mut start = run.mark;
         let mut met = run.met;
         while at > from {
             let class = self.automaton.class_of(row[at - 1]);
@@ -71,16 +76,21 @@ impl<'p, M: Automaton, S: Shelf, P: Policy> Searcher<'p, M, S, P> {
             met = met.with(next);
             start = start_at(self.begins.has(next), at, start);
         }
-        BackRun {
+        Run {
             at,
             place,
-            start,
+            mark: start,
             met,
         }
     }
 
     // Reads on from a set that has a place while steps are known.
-    fn ride_back(&mut self, row: &[M::Symbol], from: usize, scan: BackScan) -> BackScan
+    fn ride_back(
+        &mut self,
+        row: &[M::Symbol],
+        from: usize,
+        scan: Scan<Option<usize>>,
+    ) -> Scan<Option<usize>>
         requires from { from ≤ scan.at }
         requires within { BackWithin (length row.now) scan }
         requires short { length row.now ≤ 1048576 }
@@ -94,10 +104,10 @@ impl<'p, M: Automaton, S: Shelf, P: Policy> Searcher<'p, M, S, P> {
         let Some(place) = scan.cursor.place else {
             return scan;
         };
-        let run = BackRun {
+        let run = Run {
             at: scan.at,
             place,
-            start: scan.start,
+            mark: scan.mark,
             met: PlaceSet::single(place),
         };
         let end = self.run_back(row, from, run);
@@ -105,19 +115,23 @@ impl<'p, M: Automaton, S: Shelf, P: Policy> Searcher<'p, M, S, P> {
             return scan;
         }
         self.policy.touch(end.met);
-        BackScan {
+        Scan {
             at: end.at,
             cursor: Cursor {
                 set: self.sets[end.place as usize],
                 place: Some(end.place),
             },
-            start: end.start,
+            mark: end.mark,
             counts: scan.counts.more_known(scan.at - end.at),
         }
     }
 
     // Scans back from the record's end to `from`.
-    pub(in crate::searcher) fn scan_back(&mut self, row: &[M::Symbol], from: usize) -> BackScan
+    pub(in crate::searcher) fn scan_back(
+        &mut self,
+        row: &[M::Symbol],
+        from: usize,
+    ) -> Scan<Option<usize>>
         requires from { from ≤ length row.now }
         requires short { length row.now ≤ 1048576 }
         ensures backed { Ready M.Automaton S.Shelf P.Policy self.old → Backed M.Automaton S.Shelf P.Policy (memory S.Shelf P.Policy self.old) row.now result self.new }
@@ -125,13 +139,13 @@ impl<'p, M: Automaton, S: Shelf, P: Policy> Searcher<'p, M, S, P> {
         ensures within { BackWithin (length row.now) result }
         ensures automaton { self.new.automaton ≡ self.old.automaton }
     {
-        let mut scan = BackScan {
+        let mut scan = Scan {
             at: row.len(),
             cursor: Cursor {
                 set: self.automaton.begin(),
                 place: None,
             },
-            start: None,
+            mark: None,
             counts: Counts::default(),
         };
         while scan.at > from {

@@ -74,7 +74,7 @@ impl<'p, M: Automaton, S: Shelf, P: Policy> Searcher<'p, M, S, P> {
         ensures automaton { self.new.automaton ≡ self.old.automaton }
     {
         let back = self.scan_back(row, from);
-        match back.start {
+        match back.mark {
             None => Found {
                 span: None,
                 counts: back.counts,
@@ -82,7 +82,7 @@ impl<'p, M: Automaton, S: Shelf, P: Policy> Searcher<'p, M, S, P> {
             Some(start) => {
                 let ahead = self.scan_ahead(row, start);
                 Found {
-                    span: span_of(start, ahead.end),
+                    span: span_of(start, ahead.mark),
                     counts: back.counts.plus(ahead.counts),
                 }
             }
@@ -162,7 +162,7 @@ impl<'p, M: Automaton, S: Shelf, P: Policy> Searcher<'p, M, S, P> {
         let is_word = if row.is_empty() {
             self.automaton.nullable()
         } else {
-            ahead.end == row.len()
+            ahead.mark == row.len()
         };
         Ok(Whole {
             is_word,

@@ -18,7 +18,7 @@ returns-in-Some g c =
       located = λ ok.
           located_some g.M.Automaton g.S.Shelf g.P.Policy g.met.M.Automaton.proper j n (memory g.S.Shelf g.P.Policy s) r c.args.from c.in-Some.start c.scan_back-back.result c.scan_ahead-ahead.result _
           a.automaton b.at c.in-Some.is c.span_of.ensures c.plus.ensures (b.backed ok) (a.reached (b.backed ok).ready);
-      inside = span_within c.in-Some.start c.scan_ahead-ahead.result.end c.args.from (length r) c.span_of.result c.span_of.ensures (omega (arith, begins.0, b.at)) a.within.end;
+      inside = span_within c.in-Some.start c.scan_ahead-ahead.result.mark c.args.from (length r) c.span_of.result c.span_of.ensures (omega (arith, begins.0, b.at)) a.within.end;
       small = bounded_plus 1048576 1048576 2097152 c.scan_back-back.result.counts c.scan_ahead-ahead.result.counts c.plus.result refl
           (bounded_more (length r - c.scan_back-back.result.at) 1048576 c.scan_back-back.result.counts (omega (arith, c.requires.short)) b.within.counts)
           (bounded_more c.scan_ahead-ahead.result.at 1048576 c.scan_ahead-ahead.result.counts (omega (arith, a.within.at, c.requires.short)) a.within.counts) c.plus.ensures;

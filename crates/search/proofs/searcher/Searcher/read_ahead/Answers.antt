@@ -17,7 +17,7 @@ returns g c =
       at = refl;
       within = record {
         at = omega (arith, c.requires.more);
-        end = end_within c.has_last-ends.result (scan.at + 1) (length r) scan.end c.end_at.result c.end_at.ensures (omega (arith, c.requires.more)) w.end;
+        end = end_within c.has_last-ends.result (scan.at + 1) (length r) scan.mark c.end_at.result c.end_at.ensures (omega (arith, c.requires.more)) w.end;
         counts = bounded_plus scan.at 1 (scan.at + 1) scan.counts step.result.counts c.plus.result refl w.counts step.ensures.small c.plus.ensures;
       };
       automaton = step.ensures.kept.automaton_same;

@@ -17,7 +17,7 @@ returns g c =
       at = refl;
       within = record {
         at = omega (arith, w.at);
-        start = start_within c.has_first-begins.result (scan.at - 1) scan.at (length r) scan.start c.start_at.result c.start_at.ensures (omega arith) (omega (arith, w.at)) w.start;
+        start = start_within c.has_first-begins.result (scan.at - 1) scan.at (length r) scan.mark c.start_at.result c.start_at.ensures (omega arith) (omega (arith, w.at)) w.start;
         counts = bounded_plus (length r - scan.at) 1 (length r - (scan.at - 1)) scan.counts step.result.counts c.plus.result (omega (arith, c.requires.more, w.at)) w.counts step.ensures.small c.plus.ensures;
       };
       automaton = step.ensures.kept.automaton_same;

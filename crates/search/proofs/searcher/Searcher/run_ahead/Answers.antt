@@ -35,8 +35,8 @@ loop-class-preserved g c =
       (λ h. end_within ends (at + 1) (length r) c.loop-class.end c.end_at-end.result c.end_at-end.ensures (omega arith) (v.3 h)),
       λ m from k h.
           riding_ahead_next g.M.Automaton g.S.Shelf g.P.Policy g.met.M.Automaton.proper s m r from
-          (record { at = at; place = c.loop-class.place; end = c.loop-class.end; met = c.loop-class.met })
-          (record { at = at + 1; place = next; end = c.end_at-end.result; met = c.with-met.result })
+          (record { at = at; place = c.loop-class.place; mark = c.loop-class.end; met = c.loop-class.met })
+          (record { at = at + 1; place = next; mark = c.end_at-end.result; met = c.with-met.result })
           (known_more k (at - first)) (known_more k (at + 1 - first)) c.index-row-at.result c.class_of-class.result next ends
           refl lt (and_not _ _ c.loop-class-test.ensures) c.index-row-at.is c.class_of-class.ensures.fits c.class_of-class.ensures.is known refl c.has.ensures c.end_at-end.ensures
           (one_more k (at - first) (at + 1 - first) (omega (arith, v.0))) (v.4 m from k h),

@@ -34,8 +34,8 @@ loop-at-preserved g c =
       (λ n l h. start_within begins i at n c.loop-at.start c.start_at-start.result c.start_at-start.ensures (omega arith) (omega (arith, v.1)) (v.3 n l h)),
       λ m k h.
           riding_next g.M.Automaton g.S.Shelf g.P.Policy g.met.M.Automaton.proper s m c.args.row.now
-          (record { at = at; place = c.loop-at.place; start = c.loop-at.start; met = c.loop-at.met })
-          (record { at = i; place = next; start = c.start_at-start.result; met = c.with-met.result })
+          (record { at = at; place = c.loop-at.place; mark = c.loop-at.start; met = c.loop-at.met })
+          (record { at = i; place = next; mark = c.start_at-start.result; met = c.with-met.result })
           (known_more k (first - at)) (known_more k (first - i)) c.index-row-at.result c.class_of-class.result next begins
           (omega arith) (omega (arith, v.1, c.requires.within)) c.index-row-at.is c.class_of-class.ensures.fits c.class_of-class.ensures.is known refl c.has.ensures c.start_at-start.ensures
           (one_more k (first - at) (first - i) (omega (arith, v.1))) (v.4 m k h),

@@ -26,7 +26,7 @@ returns g c =
     let i = c.in_ok-check_length.ensures.short in
     let is : Ready g.M.Automaton g.S.Shelf g.P.Policy s → c.if-is_empty.is_word ≡ whole X.machine r = λ ok. elim c.if-is_empty.branch [
       | then-is_empty w ↦ w.is_word-is ∙ w.nullable-is_word.ensures ∙ whole_none X r (eqb-true (length r) 0 (sym w.if-is_empty.ensures))
-      | else-is_empty w ↦ w.is_word-is ∙ whole_is X r c.scan_ahead-ahead.result.end (omega (arith, eqb-false (length r) 0 (sym w.if-is_empty.ensures))) (a.reached ok).end_is
+      | else-is_empty w ↦ w.is_word-is ∙ whole_is X r c.scan_ahead-ahead.result.mark (omega (arith, eqb-false (length r) 0 (sym w.if-is_empty.ensures))) (a.reached ok).end_is
     ] in
     let did = λ (ok : Ready g.M.Automaton g.S.Shelf g.P.Policy s). did_whole g.M.Automaton g.S.Shelf g.P.Policy g.met.M.Automaton.proper s n r _ c.scan_ahead-ahead.result a.automaton i (is ok) (a.reached ok) in
     record {
