@@ -53,12 +53,7 @@ impl<'p, M: Automaton, S: Shelf, P: Policy> Searcher<'p, M, S, P> {
     fn place_of(&self, set: PositionSet, direction: Direction) -> Option<u8>
         ensures { MatchOption result ((p : ℕ) → p < 64 → SeatedAt self.now set direction p → ⊥) (λ p. (p < 64) × SeatedAt self.now set direction p) }
     {
-        for p in 0..64u8 {
-            if self.holds_at(p, set, direction) {
-                return Some(p);
-            }
-        }
-        None
+        (0..64u8).find(|&p| self.holds_at(p, set, direction))
     }
 
     // Drops the places, with the steps from and to them, and says how many steps those were.
