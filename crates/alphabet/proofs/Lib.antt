@@ -1,3 +1,4 @@
 pub mod Asking
 pub mod Filling
+pub mod FromFn
 pub mod Passing

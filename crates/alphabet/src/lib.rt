@@ -8,7 +8,7 @@ ghost use Rattle.sets.specs.Positions.{holds, width};
 
 mod kept;
 
-pub use kept::keep;
+pub use kept::{keep, passed};
 use sets::PositionSet;
 
 pub trait Alphabet {

@@ -1,19 +1,19 @@
 -- Bytes have one row of answers exactly when they are alike, and the table is filled byte by byte.
-use Rattle.std.proofs.Common.{◌≡◌, ℕ, ◌+◌, ◌*◌, ◌^◌, ◌<◌, ◌≤◌, Bool, true, false, cond, List, [], ◌∷◌, length, get_or, take, set, fold, sym, refl, ap, ◌∙◌, ⊎_elim, add-one, arith, length-set}
+use Rattle.std.proofs.Common.{◌≡◌, ℕ, ◌+◌, ◌*◌, ◌^◌, ◌<◌, ◌≤◌, Bool, true, false, cond, List, [], ◌∷◌, ◌++◌, length, get_or, take, set, fold, sym, refl, ap, ◌∙◌, ⊎_elim, add-one, arith, length-set}
 use mathlib.Core.Bool.{beq}
 use mir.Val.{bool_byte}
 use Rattle.std.proofs.lemmas.Bool.{and_parts, and_from, cases_Bool, eq-eqb, ne_eqb}
+use Rattle.std.proofs.lemmas.List.{length_push}
 use Rattle.std.proofs.lemmas.List.Sums.{fold_more}
 use Rattle.std.proofs.lemmas.Nat.{pow-add}
 use Rattle.sets.specs.Positions.{holds, PositionSet}
 use Rattle.symbols.specs.declared.ByteTest.{ByteTest}
 use Rattle.symbols.specs.Tests.{passes_byte}
 use Rattle.byte_classes.specs.Numbering.{how_many, smallest, leads, member}
-use Rattle.byte_classes.specs.Classes.{alike, byte_class, byte_classes}
+use Rattle.byte_classes.specs.Classes.{alike, byte_class}
 use Rattle.byte_classes.specs.Tables.{row, passed_byte, FirstLike}
-use Rattle.alphabet.proofs.Filling.{below_kept, below_set}
-use Rattle.alphabet.proofs.Passing.{blank}
-use Rattle.byte_classes.specs.First.{first_is, how_many_yes, how_many_no, how_many_le}
+use Rattle.alphabet.proofs.Filling.{below_set, below_pushed}
+use Rattle.byte_classes.specs.First.{first_is, how_many_zero, how_many_yes, how_many_no}
 use Rattle.byte_classes.specs.NumberingLemmas.{smallest_like, class_same, class_leads, member_is}
 use Rattle.byte_classes.specs.Bytewise.{alike_equivalence, beq_eq}
 
@@ -68,51 +68,39 @@ smallest_is ts rows b r h l k =
     })
 
 -- the table after the bytes below b
-abbrev pub Upto : List ByteTest → ℕ → ℕ → List ℕ → List PositionSet → Type 0
-Upto ts b n class passing =
-    (n ≡ how_many (leads (alike ts)) b)
-    × ((x : ℕ) → x < b → get_or class x 0 ≡ byte_class ts x)
-    × ((c : ℕ) → c < n → holds (get_or passing c blank) ≡ passed_byte ts (member (alike ts) 256 c))
+pub record Filled (ts : List ByteTest) (b : ℕ) (class : List ℕ) (passing : List PositionSet) : Type 0 where
+  pub long : length class ≡ 256
+  pub few : length passing ≤ b
+  pub leaders : length passing ≡ how_many (leads (alike ts)) b
+  pub classed : (x : ℕ) → x < b → get_or class x 0 ≡ byte_class ts x
+  pub told : (c : ℕ) (d : PositionSet) → c < length passing → holds (get_or passing c d) ≡ passed_byte ts (member (alike ts) 256 c)
 
--- what the loop over the bytes keeps
-abbrev pub Filled : List ByteTest → ℕ → ℕ → List ℕ → List PositionSet → Type 0
-Filled ts b n class passing = (length class ≡ 256) × (length passing ≡ 256) × (n ≤ b) × Upto ts b n class passing
-
-pub filled_at : (ts : List ByteTest) (b n n' : ℕ) (class class' : List ℕ) (passing passing' : List PositionSet) → class' ≡ class → passing' ≡ passing → n' ≡ n → Filled ts b n class passing → Filled ts b n' class' passing'
-filled_at ts b n n' class class' passing passing' e f g h = rw (e, f, g) h
+pub filled_none : (ts : List ByteTest) (class : List ℕ) → length class ≡ 256 → Filled ts 0 class []
+filled_none ts class l = record { long = l; few = omega arith; leaders = sym (how_many_zero _); classed = λ x u. absurd (omega arith); told = λ c d u. absurd (omega arith) }
 
 -- a byte that leads begins a class
-upto_new : (ts : List ByteTest) (b n : ℕ) (s : PositionSet) (class : List ℕ) (passing : List PositionSet) → b < 256 → length class ≡ 256 → length passing ≡ 256 → smallest (alike ts) b ≡ b → holds s ≡ passed_byte ts b → Upto ts b n class passing → Upto ts (b + 1) (n + 1) (set class b n) (set passing n s)
-upto_new ts b n s class passing l m m' e g h =
-    let eq = alike_equivalence ts in
+pub filled_new : (ts : List ByteTest) (b : ℕ) (s : PositionSet) (class class' : List ℕ) (passing passing' : List PositionSet) → b < 256 → smallest (alike ts) b ≡ b → holds s ≡ passed_byte ts b → Filled ts b class passing → class' ≡ set class b (length passing) → passing' ≡ passing ++ s ∷ [] → Filled ts (b + 1) class' passing'
+filled_new ts b s class class' passing passing' l e g h i j =
     let leads_b : leads (alike ts) b ≡ true = eq-eqb (smallest (alike ts) b) b e in
-    let low : how_many (leads (alike ts)) b ≤ b = how_many_le (leads (alike ts)) b in
-    let c = h.0 in (
-      ap (λ k. k + 1) c ∙ sym (ap (how_many (leads (alike ts))) (add-one b) ∙ how_many_yes (leads (alike ts)) b leads_b),
-      below_set (byte_class ts) class b n (omega arith) h.1 (c ∙ sym (class_leads (alike ts) b leads_b)),
-      below_kept (λ k x. holds x ≡ passed_byte ts (member (alike ts) 256 k)) passing n s blank (omega arith) h.2 (g ∙ ap (passed_byte ts) (sym (member_is (alike ts) eq 256 b n l leads_b (sym c)))),
-    )
+    let n : length passing' ≡ length passing + 1 = ap length j ∙ length_push passing s in
+    rw i (record {
+      long = length-set class b (length passing) ∙ h.long;
+      few = omega (arith, h.few);
+      leaders = n ∙ ap (λ k. k + 1) h.leaders ∙ sym (ap (how_many (leads (alike ts))) (add-one b) ∙ how_many_yes (leads (alike ts)) b leads_b);
+      classed = below_set (byte_class ts) class b (length passing) (omega (arith, h.long)) h.classed (h.leaders ∙ sym (class_leads (alike ts) b leads_b));
+      told = λ c d u. rw j (below_pushed (λ k x. holds x ≡ passed_byte ts (member (alike ts) 256 k)) passing s d (λ k v. h.told k d v) (g ∙ ap (passed_byte ts) (sym (member_is (alike ts) (alike_equivalence ts) 256 b (length passing) l leads_b (sym h.leaders)))) c (omega (arith, n)));
+    })
 
 -- another byte has the class of the smallest byte like it
-upto_old : (ts : List ByteTest) (b n r v : ℕ) (class : List ℕ) (passing : List PositionSet) → b < 256 → length class ≡ 256 → smallest (alike ts) b ≡ r → r < b → v ≡ get_or class r 0 → Upto ts b n class passing → Upto ts (b + 1) n (set class b v) passing
-upto_old ts b n r v class passing l m e u z h =
+pub filled_old : (ts : List ByteTest) (b r : ℕ) (class class' : List ℕ) (passing : List PositionSet) → b < 256 → smallest (alike ts) b ≡ r → r < b → Filled ts b class passing → class' ≡ set class b (get_or class r 0) → Filled ts (b + 1) class' passing
+filled_old ts b r class class' passing l e u h i =
     let eq = alike_equivalence ts in
     let follows : leads (alike ts) b ≡ false = ne_eqb (smallest (alike ts) b) b (λ same. omega arith) in
-    let like : alike ts b r ≡ true = ap (alike ts b) (sym e) ∙ smallest_like (alike ts) eq b in (
-      h.0 ∙ sym (ap (how_many (leads (alike ts))) (add-one b) ∙ how_many_no (leads (alike ts)) b follows),
-      below_set (byte_class ts) class b v (omega arith) h.1 (z ∙ h.1 r u ∙ sym (class_same (alike ts) eq b r like)),
-      h.2,
-    )
-
-pub filled_new : (ts : List ByteTest) (rows : List ℕ) (b n r : ℕ) (s : PositionSet) (class : List ℕ) (passing : List PositionSet) → ((x : ℕ) → x < 256 → get_or rows x 0 ≡ row ts x) → b < 256 → FirstLike rows b r → r ≡ b → holds s ≡ passed_byte ts b → Filled ts b n class passing → Filled ts (b + 1) (n + 1) (set class b n) (set passing n s)
-filled_new ts rows b n r s class passing k l f e g h =
-    (length-set class b n ∙ h.0, length-set passing n s ∙ h.1, omega (arith, h.2), upto_new ts b n s class passing l h.0 h.1 (smallest_is ts rows b r k l f ∙ e) g h.3)
-
-pub filled_old : (ts : List ByteTest) (rows : List ℕ) (b n r v : ℕ) (class : List ℕ) (passing : List PositionSet) → ((x : ℕ) → x < 256 → get_or rows x 0 ≡ row ts x) → b < 256 → FirstLike rows b r → (r ≡ b → ⊥) → v ≡ get_or class r 0 → Filled ts b n class passing → Filled ts (b + 1) n (set class b v) passing
-filled_old ts rows b n r v class passing k l f d e h =
-    (length-set class b v ∙ h.0, h.1, omega (arith, h.2), upto_old ts b n r v class passing l h.0 (smallest_is ts rows b r k l f) (omega (arith, f.low)) e h.3)
-
-pub filled_all : (ts : List ByteTest) (b n : ℕ) (class : List ℕ) (passing : List PositionSet) → b ≡ 256 → Filled ts b n class passing → (n ≡ byte_classes ts) × ((x : ℕ) → x < 256 → get_or class x 0 ≡ byte_class ts x) × ((c k : ℕ) → c < byte_classes ts → holds (get_or passing c blank) k ≡ passed_byte ts (member (alike ts) 256 c) k)
-filled_all ts b n class passing e h =
-    let z : n ≡ byte_classes ts = h.3.0 ∙ ap (how_many (leads (alike ts))) e in
-    (z, (λ x u. h.3.1 x (omega arith)), (λ c k u. ap (λ f. f k) (h.3.2 c (omega (arith, z)))))
+    let like : alike ts b r ≡ true = ap (alike ts b) (sym e) ∙ smallest_like (alike ts) eq b in
+    rw i (record {
+      long = length-set class b (get_or class r 0) ∙ h.long;
+      few = omega (arith, h.few);
+      leaders = h.leaders ∙ sym (ap (how_many (leads (alike ts))) (add-one b) ∙ how_many_no (leads (alike ts)) b follows);
+      classed = below_set (byte_class ts) class b (get_or class r 0) (omega (arith, h.long)) h.classed (h.classed r u ∙ sym (class_same (alike ts) eq b r like));
+      told = h.told;
+    })

@@ -1,8 +1,8 @@
 -- What the tables of the classes of bytes hold, and how they are made.
-use Rattle.std.specs.Prelude.{◌≡◌, ℕ, ◌+◌, ◌*◌, ◌<◌, ◌≤◌, cond, List, fold, ◌≢◌, slice_index, slice_index_or}
-use Rattle.sets.specs.BitSets.{set_of_bits}
+use Rattle.std.specs.Prelude.{◌≡◌, ℕ, ◌+◌, ◌*◌, ◌<◌, ◌≤◌, cond, List, length, fold, ◌≢◌, slice_index, slice_index_or}
 use Rattle.sets.specs.Members.{Members, shared, below}
 use Rattle.sets.specs.Positions.{holds, width}
+use Rattle.sets.specs.declared.positions.PositionSet.{PositionSet}
 use Rattle.symbols.specs.declared.ByteTest.{ByteTest}
 use Rattle.symbols.specs.Tests.{passes_byte}
 use Rattle.byte_classes.specs.declared.table.ByteTable.{ByteTable}
@@ -20,11 +20,11 @@ passed_byte ts b = shared (below width) (byte_answers ts b)
 
 -- the table has the number of classes and the class of each byte
 abbrev pub Tabled : List ByteTest → ByteTable → Type 0
-Tabled ts table = (table.classes ≡ byte_classes ts) × ((b : ℕ) → b < 256 → slice_index table.class b ≡ byte_class ts b)
+Tabled ts table = (length table.passing.items ≡ byte_classes ts) × ((b : ℕ) → b < 256 → slice_index table.class b ≡ byte_class ts b)
 
 -- it has the tests that each class passes
 abbrev pub Told : List ByteTest → ByteTable → Type 0
-Told ts table = (c k : ℕ) → c < byte_classes ts → holds (slice_index_or table.passing c (set_of_bits 0)) k ≡ passed_byte ts (member (alike ts) 256 c) k
+Told ts table = (c k : ℕ) (d : PositionSet) → c < byte_classes ts → holds (slice_index_or table.passing.items c d) k ≡ passed_byte ts (member (alike ts) 256 c) k
 
 -- the answers of the tests to a byte, as the digits of a number to the base 2
 abbrev pub row : List ByteTest → ℕ → ℕ

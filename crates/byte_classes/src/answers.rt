@@ -41,7 +41,7 @@ impl Alphabet for ByteClasses {
     ghost unclassed = { λ a c k h. bytes_unclassed (byte_tests a) c k h };
 
     fn class_count(&self) -> u16 {
-        self.table.classes
+        self.table.passing.len() as u16
     }
 
     fn class_of(&self, symbol: u8) -> u16 {
@@ -53,11 +53,11 @@ impl Alphabet for ByteClasses {
     }
 
     fn passing(&self, class: u16) -> PositionSet {
-        if class < self.class_count() {
-            self.table.passing[class as usize]
-        } else {
-            PositionSet::empty()
-        }
+        self.table
+            .passing
+            .get(class as usize)
+            .copied()
+            .unwrap_or(PositionSet::empty())
     }
 }
 
@@ -70,13 +70,8 @@ impl FromTests for ByteClasses {
         ensures tests { byte_tests result ≡ take 63 tests.now }
         ensures law { Classified (byte_tests result) }
     {
-        let mut own = [ByteTest { bits: [0; 32] }; 63];
-        let used = keep(&mut own, tests);
-        let table = table::tabulate(&own[..used]);
-        ByteClasses {
-            tests: own,
-            used,
-            table,
-        }
+        let tests = keep(tests);
+        let table = table::tabulate(&tests);
+        ByteClasses { tests, table }
     }
 }

@@ -2,21 +2,21 @@
 // and the classes are numbered by their smallest bytes.
 #![tactic(auto)]
 
-ghost use Rattle.std.specs.Prelude.{◌≤◌, take};
+ghost use Rattle.std.specs.Prelude.{◌≤◌, length};
 ghost use Rattle.byte_classes.specs.Tables.{Tabled, Told};
 
 mod answers;
 mod table;
 
+use arrayvec::ArrayVec;
 use symbols::ByteTest;
 use table::ByteTable;
 
 #[derive(Drop)]
 pub struct ByteClasses {
-    tests: [ByteTest; 63],
-    used: usize,
+    tests: ArrayVec<ByteTest, 63>,
     table: ByteTable,
-    ghost few: { used ≤ 63 },
-    ghost right: { Tabled (take used tests) table },
-    ghost told: { Told (take used tests) table },
+    ghost few: { length tests.items ≤ 63 },
+    ghost right: { Tabled tests.items table },
+    ghost told: { Told tests.items table },
 }

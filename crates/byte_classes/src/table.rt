@@ -1,40 +1,35 @@
 // The table of classes, made from the tests.
-ghost use Rattle.std.specs.Prelude.{◌≡◌, ℕ, ◌<◌, ◌≤◌, length, slice_index};
-ghost use Rattle.sets.specs.Positions.{holds};
-ghost use Rattle.byte_classes.specs.Tables.{Tabled, Told, row, passed_byte, FirstLike};
+ghost use Rattle.std.specs.Prelude.{◌≡◌, ℕ, ◌<◌, slice_index};
+ghost use Rattle.byte_classes.specs.Tables.{Tabled, Told, row, FirstLike};
 
+use alphabet::passed;
+use arrayvec::ArrayVec;
 use sets::PositionSet;
+use std::array;
 use symbols::ByteTest;
 
 // The class of each byte, and the tests that each class passes.
-#[derive(Clone, Copy)]
+#[derive(Drop)]
 pub struct ByteTable {
-    pub classes: u16,
     pub class: [u8; 256],
-    pub passing: [PositionSet; 256],
+    pub passing: ArrayVec<PositionSet, 256>,
 }
 
 // The answers of the tests to a byte, as the digits of a number to the base 2.
-fn row(tests: &[ByteTest], byte: u8) -> u64
-    requires { length tests.now ≤ 63 }
-    ensures { result ≡ row tests.now byte }
+fn row(tests: &ArrayVec<ByteTest, 63>, byte: u8) -> u64
+    ensures { result ≡ row tests.now.items byte }
 {
     let mut digits = 0;
-    for test in tests {
+    for test in tests.iter() {
         digits = digits * 2 + u64::from(test.passes(byte));
     }
     digits
 }
 
-fn rows(tests: &[ByteTest]) -> [u64; 256]
-    requires { length tests.now ≤ 63 }
-    ensures { (b : ℕ) → b < 256 → slice_index result b ≡ row tests.now b }
+fn rows(tests: &ArrayVec<ByteTest, 63>) -> [u64; 256]
+    ensures { (b : ℕ) → b < 256 → slice_index result b ≡ row tests.now.items b }
 {
-    let mut rows = [0; 256];
-    for byte in 0..256usize {
-        rows[byte] = row(tests, byte as u8);
-    }
-    rows
+    array::from_fn(|byte| row(tests, byte as u8))
 }
 
 // The smallest byte with the row that `byte` has.
@@ -42,50 +37,26 @@ fn first_like(rows: &[u64; 256], byte: usize) -> usize
     requires { byte < 256 }
     ensures { FirstLike rows.now byte result }
 {
-    for other in 0..byte {
-        if rows[other] == rows[byte] {
-            return other;
-        }
-    }
-    byte
+    rows.iter()
+        .position(|row| *row == rows[byte])
+        .unwrap_or(byte)
 }
 
-// The tests that the byte passes.
-fn passed_by(tests: &[ByteTest], byte: u8) -> PositionSet
-    requires { length tests.now ≤ 63 }
-    ensures { holds result ≡ passed_byte tests.now byte }
-{
-    let mut passed = PositionSet::empty();
-    for (i, test) in tests.iter().enumerate() {
-        if test.passes(byte) {
-            passed = passed.with(i as u8 + 1);
-        }
-    }
-    passed
-}
-
-pub fn tabulate(tests: &[ByteTest]) -> ByteTable
-    requires { length tests.now ≤ 63 }
-    ensures classes { Tabled tests.now result }
-    ensures passing { Told tests.now result }
+pub fn tabulate(tests: &ArrayVec<ByteTest, 63>) -> ByteTable
+    ensures classes { Tabled tests.now.items result }
+    ensures passing { Told tests.now.items result }
 {
     let rows = rows(tests);
-    let mut class = [0u8; 256];
-    let mut passing = [PositionSet::empty(); 256];
-    let mut classes = 0u16;
-    for byte in 0..256usize {
+    let mut class = [0; 256];
+    let mut passing = ArrayVec::new();
+    for byte in 0..256 {
         let like = first_like(&rows, byte);
         if like == byte {
-            class[byte] = classes as u8;
-            passing[classes as usize] = passed_by(tests, byte as u8);
-            classes += 1;
+            class[byte] = passing.len() as u8;
+            passing.push(passed(tests, |test| test.passes(byte as u8)));
         } else {
             class[byte] = class[like];
         }
     }
-    ByteTable {
-        classes,
-        class,
-        passing,
-    }
+    ByteTable { class, passing }
 }

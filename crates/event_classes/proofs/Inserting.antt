@@ -1,71 +1,86 @@
--- A cut put into its place in an array.
-use Rattle.std.proofs.Common.{◌≡◌, ℕ, ◌+◌, ◌-◌, ◌*◌, ◌<◌, ◌≤◌, List, [], ◌∷◌, ◌++◌, length, get_or, take, drop, set, sym, ap, ◌∙◌, arith}
-use lib.Seq.{paste}
+-- Cuts put into their places, and the cuts counted.
+use Rattle.std.proofs.Common.{◌≡◌, ℕ, ◌+◌, ◌-◌, ◌*◌, ◌^◌, ◌<◌, ◌≤◌, min, leb, List, [], length, get_or, take, drop, Result, Ok, Err, subst, sym, ap, ◌∙◌, ⊎_elim, inr, arith, true, false}
 use Rattle.std.specs.List.{insert}
-use Rattle.std.proofs.lemmas.List.{append_assoc, length-append, length-take-le, length-drop, get_or-take, take-take, take_more, take_at, drop-take, set_at, at_drop_more, at_drop_all}
+use Rattle.std.specs.List.Sorted.{IsNonDecreasing, IsPartitionPoint, IsBinarySearchResult}
+use Rattle.std.specs.Ordering.{nat_cmp}
+use Rattle.std.proofs.lemmas.Bool.{cases_lt, lt-leb, le-leb, both_ways}
+use Rattle.std.proofs.lemmas.List.{get_or-drop, get_or-take, at_drop_more, at_drop_all, length-take, length-drop}
+use Rattle.std.proofs.lemmas.List.Sorted.{IsNonDecreasingBy-from_default, searched}
 use Rattle.symbols.specs.declared.EventTest.{EventTest}
-use Rattle.event_classes.specs.Cuts.{placed, cut, cut_by, cuts, at_or_below, event_class, Ascending}
-use Rattle.event_classes.specs.Cutting.{count_le, count_mono, placed_old, placed_new, at_among, among_last, cut_ascending, by_ascending}
+use Rattle.event_classes.specs.Cuts.{cut, cut_by, cuts, at_or_below, Ascending}
+use Rattle.event_classes.specs.Cutting.{count_le, count_below, count_above, count_mono, placed_old, placed_new, at_among, among_at, at_most, cut_in, cut_out, by_ascending}
+use Rattle.event_classes.specs.declared.table.KindClasses.{KindClasses}
+use Rattle.event_classes.specs.Tables.{KindsRight}
 
-pub insert_old : (codes : List ℕ) (n x r : ℕ) → n ≤ length codes → Ascending (take n codes) → r ≡ at_or_below x (take n codes) → 0 < r → get_or codes (r - 1) 0 ≡ x → take n codes ≡ placed x (take n codes)
-insert_old codes n x r l h e u f =
-    let m : length (take n codes) ≡ n = length-take-le n codes l in
-    let c = count_le x (take n codes) in
-    sym (placed_old x (take n codes) h (at_among (take n codes) (r - 1) x (omega arith) (get_or-take n codes (r - 1) 0 (omega arith) ∙ f)))
+pub rising : (cs : List ℕ) → Ascending cs → IsNonDecreasing cs
+rising cs h = IsNonDecreasingBy-from_default (λ x. x) cs 0 (λ i j l u. at_most cs h i j l u)
 
--- the codes from place r on moved up by one, and x in the gap
-moved_up : (codes : List ℕ) (n x r : ℕ) → n < length codes → r ≤ n → take (n + 1) (set (paste codes (r + 1) (drop r codes) (n - r)) r x) ≡ insert (take n codes) r x
-moved_up codes n x r l u =
-    let p = take r codes in
-    let m = take (n - r) (drop r codes) in
-    let q = drop (r + 1 + (n - r)) codes in
-    let y = get_or codes r 0 in
-    let lp : length p ≡ r = length-take-le r codes (omega arith) in
-    let ld : length (drop r codes) ≡ length codes - r = length-drop r codes in
-    let lm : length m ≡ n - r = length-take-le (n - r) (drop r codes) (omega arith) in
-    let a : (take (r + 1) codes ++ m) ++ q ≡ p ++ (y ∷ (m ++ q)) = ap (λ z. (z ++ m) ++ q) (take_more codes r 0 (omega arith)) ∙ ap (λ z. z ++ q) (append_assoc p (y ∷ []) m) ∙ append_assoc p (y ∷ m) q in
-    let b : set ((take (r + 1) codes ++ m) ++ q) r x ≡ (p ++ (x ∷ m)) ++ q = ap (λ z. set z r x) a ∙ set_at p y (m ++ q) x r lp ∙ sym (append_assoc p (x ∷ m) q) in
-    let s : length (p ++ (x ∷ m)) ≡ n + 1 = length-append p (x ∷ m) ∙ omega arith in
-    let w : r + (n - r) ≡ n = omega arith in
-    let d : drop r (take n codes) ≡ m = ap (λ z. drop r (take z codes)) (sym w) ∙ drop-take r (n - r) codes in
-    let t : take r (take n codes) ≡ p = take-take r n codes u in
-    ap (take (n + 1)) b ∙ take_at (p ++ (x ∷ m)) q (n + 1) s ∙ sym (ap (λ z. z ++ (x ∷ drop r (take n codes))) t ∙ ap (λ z. p ++ (x ∷ z)) d)
+-- a cut that a search found, and one that it found the place of
+pub cut_found : (x i : ℕ) (cs : List ℕ) → Ascending cs → 0 < x → x < 16777216 → (i < length cs) × (get_or cs i 0 ≡ x) → cs ≡ cut x cs
+cut_found x i cs h l u w = sym (cut_in x cs l u ∙ placed_old x cs h (at_among cs i x w.0 w.1))
 
-pub insert_new : (codes new : List ℕ) (n x r : ℕ) → n < length codes → Ascending (take n codes) → r ≡ at_or_below x (take n codes) → (0 < r → get_or codes (r - 1) 0 ≡ x → ⊥) → new ≡ paste codes (r + 1) (drop r codes) (n - r) → take (n + 1) (set new r x) ≡ placed x (take n codes)
-insert_new codes new n x r l h e none f =
-    let m : length (take n codes) ≡ n = length-take-le n codes (omega arith) in
-    let c = count_le x (take n codes) in
-    ap (λ z. take (n + 1) (set z r x)) f ∙ moved_up codes n x r l (omega arith) ∙
-    ap (λ z. insert (take n codes) z x) e ∙
-    sym (placed_new x (take n codes) h
-    (λ a.
-    let w = among_last x (take n codes) h a in
-    let g : get_or (take n codes) (at_or_below x (take n codes) - 1) 0 ≡ get_or codes (r - 1) 0 = ap (λ z. get_or (take n codes) (z - 1) 0) (sym e) ∙ get_or-take n codes (r - 1) 0 (omega (arith, w.0)) in
-    none (omega (arith, w.0)) (sym g ∙ w.1)))
+pub cut_placed : (x i : ℕ) (cs new : List ℕ) → Ascending cs → 0 < x → x < 16777216 → (i ≤ length cs) × ((k : ℕ) → k < i → get_or cs k 0 < x) × ((k : ℕ) → i ≤ k → k < length cs → x < get_or cs k 0) → new ≡ insert cs i x → new ≡ cut x cs
+cut_placed x i cs new h l u w e =
+    let r : at_or_below x cs ≤ length cs = count_le x cs in
+    let place : i ≡ at_or_below x cs =
+    ⊎_elim (λ (v : i < at_or_below x cs). absurd (omega (arith, count_below x cs h i v, w.2 i)))
+    (λ (v : at_or_below x cs ≤ i). ⊎_elim (λ (z : at_or_below x cs < i). absurd (omega (arith, count_above x cs h (at_or_below x cs) (omega arith) (omega (arith, w.0)), w.1 (at_or_below x cs) z))) (λ z. omega arith) (cases_lt (at_or_below x cs) i))
+    (cases_lt i (at_or_below x cs)) in
+    e ∙ ap (λ k. insert cs k x) place
+    ∙ sym (cut_in x cs l u ∙ placed_new x cs h
+    (λ a. let m = among_at x cs a in ⊎_elim (λ (z : m.0 < i). omega (arith, w.1 m.0 z, m.2)) (λ (z : i ≤ m.0). omega (arith, w.2 m.0 z m.1, m.2)) (cases_lt m.0 i)))
+
+-- the same of what the search says of a list ds that is cs
+abbrev Searched : ℕ → List ℕ → Result ℕ ℕ → Type 0
+Searched x = IsBinarySearchResult (λ y. nat_cmp y x)
+
+pub cut_searched : (x i : ℕ) (ds cs : List ℕ) (r : Result ℕ ℕ) → Ascending cs → 0 < x → x < 16777216 → ds ≡ cs → r ≡ Ok i → Searched x ds r → cs ≡ cut x cs
+cut_searched x i ds cs r h l u e f w =
+    cut_found x i cs h l u (searched cs x (Ok i) (subst (λ ys. Searched x ys (Ok i)) e (subst (Searched x ds) f w)) (at_most cs h))
+
+pub cut_inserted : (x i : ℕ) (ds cs new : List ℕ) (r : Result ℕ ℕ) → Ascending cs → 0 < x → x < 16777216 → ds ≡ cs → r ≡ Err i → Searched x ds r → new ≡ insert cs i x → new ≡ cut x cs
+cut_inserted x i ds cs new r h l u e f w g =
+    cut_placed x i cs new h l u (searched cs x (Err i) (subst (λ ys. Searched x ys (Err i)) e (subst (Searched x ds) f w)) (at_most cs h)) g
+
+-- a code that has no next one cuts nothing off
+pub cut_behind : (high code : ℕ) (cs : List ℕ) → code ≡ min (high + 1) (2 ^ 32 - 1) → cut code cs ≡ cut (high + 1) cs
+cut_behind high code cs e =
+    ⊎_elim (λ (l : high + 1 < 2 ^ 32). let same : code ≡ high + 1 = omega arith in ap (λ x. cut x cs) same) (λ (l : 2 ^ 32 ≤ high + 1). cut_out code cs (inr (omega arith)) ∙ sym (cut_out (high + 1) cs (inr (omega arith)))) (cases_lt (high + 1) (2 ^ 32))
 
 -- the cuts of one more test
-pub cut_more : (ts : List EventTest) (i : ℕ) (d : EventTest) (cs low high whole : List ℕ) → i < length ts → cut_by (drop i ts) cs ≡ whole → low ≡ cut (get_or ts i d).low cs → high ≡ cut ((get_or ts i d).high + 1) low → cut_by (drop (i + 1) ts) high ≡ whole
-cut_more ts i d cs low high whole l h e f =
-    ap (cut_by (drop (i + 1) ts)) (f ∙ ap (cut ((get_or ts i d).high + 1)) e) ∙ sym (at_drop_more (λ us. cut_by us cs) ts i d l) ∙ h
+pub cut_more : (ts : List EventTest) (i code : ℕ) (d : EventTest) (cs low high whole : List ℕ) → i < length ts → cut_by (drop i ts) cs ≡ whole → low ≡ cut (get_or ts i d).low cs → code ≡ min ((get_or ts i d).high + 1) (2 ^ 32 - 1) → high ≡ cut code low → cut_by (drop (i + 1) ts) high ≡ whole
+cut_more ts i code d cs low high whole l h e s f =
+    ap (cut_by (drop (i + 1) ts)) (f ∙ cut_behind (get_or ts i d).high code low s ∙ ap (cut ((get_or ts i d).high + 1)) e) ∙ sym (at_drop_more (λ us. cut_by us cs) ts i d l) ∙ h
 
 pub cut_none : (ts : List EventTest) (i : ℕ) (cs whole : List ℕ) → length ts ≤ i → cut_by (drop i ts) cs ≡ whole → cs ≡ whole
 cut_none ts i cs whole l h = sym (at_drop_all (λ us. cut_by us cs) ts i l) ∙ h
 
-pub ascending_low : (ts : List EventTest) (i : ℕ) (d : EventTest) (cs low : List ℕ) → Ascending cs → low ≡ cut (get_or ts i d).low cs → Ascending low
-ascending_low ts i d cs low h e = rw e (cut_ascending (get_or ts i d).low cs h)
-
-pub ascending_high : (ts : List EventTest) (i : ℕ) (d : EventTest) (cs high : List ℕ) → Ascending cs → high ≡ cut ((get_or ts i d).high + 1) cs → Ascending high
-ascending_high ts i d cs high h e = rw e (cut_ascending ((get_or ts i d).high + 1) cs h)
-
-pub ascending_cuts : (ts : List EventTest) (cs : List ℕ) → cs ≡ cuts ts → Ascending cs
-ascending_cuts ts cs e = rw e (by_ascending ts [] tt)
+-- the number of cuts at or below a code, counted between two numbers
+pub rank_within : (code low n r : ℕ) (ds cs part : List ℕ) → Ascending cs → low ≤ at_or_below code cs → at_or_below code cs ≤ low + n → low + n ≤ length cs → ds ≡ cs → part ≡ take n (drop low ds) → r ≤ n → IsPartitionPoint (λ y. leb y code ≡ true) (λ y. leb y code ≡ false) part r → low + r ≡ at_or_below code cs
+rank_within code low n r ds cs part h l u long e f few w =
+    let is : part ≡ take n (drop low cs) = f ∙ ap (λ ys. take n (drop low ys)) e in
+    let at : (k : ℕ) → k < n → get_or part k 0 ≡ get_or cs (low + k) 0 = λ k v. ap (λ ys. get_or ys k 0) is ∙ get_or-take n (drop low cs) k 0 v ∙ get_or-drop low cs k 0 in
+    let size : length part ≡ n = ap length is ∙ length-take n (drop low cs) ∙ omega (arith, length-drop low cs) in
+    ⊎_elim
+    (λ (v : low + r < at_or_below code cs).
+    absurd (both_ways (leb (get_or part r 0) code) (w.1 r 0 (omega arith) (omega arith)) (le-leb (get_or part r 0) code (omega (arith, at r (omega arith), count_below code cs h (low + r) v)))))
+    (λ (v : at_or_below code cs ≤ low + r).
+    ⊎_elim
+    (λ (z : at_or_below code cs < low + r).
+    let k : low + (at_or_below code cs - low) ≡ at_or_below code cs = omega arith in
+    absurd (both_ways (leb (get_or part (at_or_below code cs - low) 0) code)
+    (lt-leb (get_or part (at_or_below code cs - low) 0) code
+    (omega (arith, at (at_or_below code cs - low) (omega arith), ap (λ j. get_or cs j 0) k, count_above code cs h (at_or_below code cs) (omega arith) (omega arith))))
+    (w.0 (at_or_below code cs - low) 0 (omega arith) (omega arith))))
+    (λ z. omega arith)
+    (cases_lt (at_or_below code cs) (low + r)))
+    (cases_lt (low + r) (at_or_below code cs))
 
 -- the class of an event lies between those of its kind's lowest and highest code
-pub kind_between : (ts : List EventTest) (cs : List ℕ) (code kind value low high : ℕ) → cs ≡ cuts ts → code ≡ kind * 65536 + value → value < 65536 → low ≡ event_class ts (kind * 65536 + 0) → high ≡ event_class ts (kind * 65536 + 65535) → (low ≤ at_or_below code cs) × (at_or_below code cs ≤ high) × (high ≤ length cs)
-kind_between ts cs code kind value low high c e l f g =
-    let h = ascending_cuts ts cs c in
-    let a = count_mono (kind * 65536 + 0) code cs h (omega arith) in
-    let b = count_mono code (kind * 65536 + 65535) cs h (omega arith) in
-    let f' : low ≡ at_or_below (kind * 65536 + 0) cs = f ∙ ap (at_or_below (kind * 65536 + 0)) (sym c) in
-    let g' : high ≡ at_or_below (kind * 65536 + 65535) cs = g ∙ ap (at_or_below (kind * 65536 + 65535)) (sym c) in
-    (omega arith, omega arith, omega (arith, count_le (kind * 65536 + 65535) cs))
+pub kind_between : (ts : List EventTest) (cs : List ℕ) (kinds : List KindClasses) (d : KindClasses) (code kind value : ℕ) → cs ≡ cuts ts → KindsRight (cuts ts) kinds → code ≡ kind * 65536 + value → kind < 256 → value < 65536 → ((get_or kinds kind d).lowest ≤ at_or_below code cs) × (at_or_below code cs ≤ (get_or kinds kind d).highest) × ((get_or kinds kind d).highest ≤ length cs)
+kind_between ts cs kinds d code kind value c right e k l =
+    let h = by_ascending ts [] tt in
+    let w = right kind d k in
+    let a = count_mono (kind * 65536 + 0) code (cuts ts) h (omega arith) in
+    let b = count_mono code (kind * 65536 + 65535) (cuts ts) h (omega arith) in
+    rw c (omega (arith, w.0), omega (arith, w.1), omega (arith, w.1, count_le (kind * 65536 + 65535) (cuts ts)))

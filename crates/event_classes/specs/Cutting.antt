@@ -55,7 +55,7 @@ ascending_at (y ∷ ys) h i zero l u = absurd (omega arith)
 ascending_at (y ∷ ys) h zero (suc j) l u = all_at y ys h.0 j (omega arith)
 ascending_at (y ∷ ys) h (suc i) (suc j) l u = ascending_at ys h.1 i j (omega arith) (omega arith)
 
-among_at : (x : ℕ) (cs : List ℕ) → Among x cs → (i : ℕ) × (i < length cs) × (slice_index cs i ≡ x)
+pub among_at : (x : ℕ) (cs : List ℕ) → Among x cs → (i : ℕ) × (i < length cs) × (slice_index cs i ≡ x)
 among_at x [] h = absurd h
 among_at x (y ∷ ys) (inl e) = (0, omega arith, sym e)
 among_at x (y ∷ ys) (inr h) = let w = among_at x ys h in (suc w.0, omega (arith, w.1), w.2)
@@ -76,7 +76,7 @@ lowest_low code cs h =
 among_counted : (code x : ℕ) (cs : List ℕ) → Ascending cs → x ≤ code → (i : ℕ) → i < length cs → slice_index cs i ≡ x → i < at_or_below code cs
 among_counted code x cs h l i u e = ⊎_elim (λ (v : i < at_or_below code cs). v) (λ (v : at_or_below code cs ≤ i). absurd (omega (arith, count_above code cs h i v u))) (cases_lt i (at_or_below code cs))
 
-at_most : (cs : List ℕ) → Ascending cs → (i j : ℕ) → i ≤ j → j < length cs → slice_index cs i ≤ slice_index cs j
+pub at_most : (cs : List ℕ) → Ascending cs → (i j : ℕ) → i ≤ j → j < length cs → slice_index cs i ≤ slice_index cs j
 at_most cs h i j l u = ⊎_elim (λ (e : i ≡ j). rw e (omega arith)) (λ (d : i ≡ j → ⊥). omega (arith, ascending_at cs h i j (omega arith) u)) (cases_eq i j)
 
 pub lowest_cuts : (code x : ℕ) (cs : List ℕ) → Ascending cs → Among x cs → x ≤ code → x ≤ lowest_code cs (at_or_below code cs)

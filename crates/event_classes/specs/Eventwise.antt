@@ -1,8 +1,7 @@
 -- The classes of events: no test tells codes of one class apart.
-use Rattle.std.specs.Prelude.{◌≡◌, ℕ, zero, suc, ◌+◌, ◌<◌, ◌≤◌, true, false, cond, not, ◌&&◌, ltb, leb, ◌⊎◌, List, [], ◌∷◌, length, take, ◌==◌, nat_le, nat_lt, refl}
+use Rattle.std.specs.Prelude.{◌≡◌, ℕ, zero, suc, ◌+◌, ◌<◌, ◌≤◌, true, false, cond, not, ◌&&◌, ltb, leb, ◌⊎◌, List, [], ◌∷◌, length, ◌==◌, nat_le, nat_lt, refl}
 use Rattle.std.proofs.Common.{sym, ap, ◌∙◌, inl, inr, ⊎_elim, arith}
 use Rattle.std.proofs.lemmas.Bool.{cases_lt, cases_eq, le-leb, lt-leb, lt-ltb, le-ltb, ltb-true, and_left, and_right, and_parts}
-use Rattle.std.proofs.lemmas.List.{length-take}
 use Rattle.symbols.specs.declared.Event.{Event}
 use Rattle.symbols.specs.declared.EventTest.{EventTest}
 use Rattle.symbols.specs.Tests.{passes_code, code_of}
@@ -44,10 +43,6 @@ events_within ts code = omega (arith, count_le code (cuts ts))
 
 pub events_few : (ts : List EventTest) → length ts ≤ 63 → (1 ≤ event_classes ts) × (event_classes ts ≤ 256)
 events_few ts l = (omega arith, omega (arith, by_length ts []))
-
--- the first n of the tests are no more than n
-pub few_taken : (n : ℕ) (ts : List EventTest) → n ≤ 63 → length (take n ts) ≤ 63
-few_taken n ts few = omega (arith, length-take n ts)
 
 -- kinds of 8 bits and values of 16 bits have codes of 24
 pub code_fits : (e : Event) → nat_lt e.kind 256 && nat_lt e.value 65536 ≡ true → code_of e < 16777216

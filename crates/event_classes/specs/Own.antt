@@ -1,7 +1,7 @@
 -- The tests that the classes of events were made with.
-use Rattle.std.specs.Prelude.{List, take}
+use Rattle.std.specs.Prelude.{List}
 use Rattle.symbols.specs.declared.EventTest.{EventTest}
 use Rattle.event_classes.specs.declared.EventCuts.{EventCuts}
 
 abbrev pub event_tests : EventCuts → List EventTest
-event_tests a = take a.used a.tests
+event_tests a = a.tests.items

@@ -3,7 +3,7 @@ ghost use Rattle.std.specs.Prelude.{◌≡◌, ◌<◌, ◌&&◌, length, take, 
 ghost use Rattle.symbols.specs.Tests.{code_of, passes_code};
 ghost use Rattle.event_classes.specs.Cuts.{event_passes, event_classes, event_class, event_accepts, Cut};
 ghost use Rattle.event_classes.specs.Own.{event_tests};
-ghost use Rattle.event_classes.specs.Eventwise.{events_few, few_taken, code_fits, events_within, events_agree, events_untested, events_unclassed};
+ghost use Rattle.event_classes.specs.Eventwise.{events_few, code_fits, events_within, events_agree, events_untested, events_unclassed};
 ghost use Rattle.alphabet.proofs.Asking.{asked_none};
 
 use crate::{EventCuts, table};
@@ -26,7 +26,7 @@ impl Alphabet for EventCuts {
 
     ghost accepts = { λ a c k. event_accepts (event_tests a) c k };
 
-    ghost few = { λ a. events_few (event_tests a) (few_taken a.used a.tests a.few) };
+    ghost few = { λ a. events_few (event_tests a) a.few };
 
     ghost within = { λ a e h. events_within (event_tests a) (code_of e) };
 
@@ -39,15 +39,16 @@ impl Alphabet for EventCuts {
     ghost unclassed = { λ a c k h. events_unclassed (event_tests a) c k h };
 
     fn class_count(&self) -> u16 {
-        self.table.count as u16 + 1
+        self.table.passing.len() as u16
     }
 
     fn class_of(&self, symbol: Event) -> u16 {
-        let kind = symbol.kind as usize;
-        let cuts = &self.table.codes[..self.table.count];
-        let low = self.table.lowest[kind] as usize;
-        let high = self.table.highest[kind] as usize;
-        table::rank_between(cuts, symbol.code(), low, high) as u16
+        let kind = self.table.kinds[symbol.kind as usize];
+        let rank = self
+            .table
+            .cuts
+            .rank_between(symbol.code(), kind.lowest as usize, kind.highest as usize);
+        rank as u16
     }
 
     fn class_passes(&self, class: u16, test: u8) -> bool {
@@ -55,11 +56,11 @@ impl Alphabet for EventCuts {
     }
 
     fn passing(&self, class: u16) -> PositionSet {
-        if class < self.class_count() {
-            self.table.passing[class as usize]
-        } else {
-            PositionSet::empty()
-        }
+        self.table
+            .passing
+            .get(class as usize)
+            .copied()
+            .unwrap_or(PositionSet::empty())
     }
 }
 
@@ -72,17 +73,8 @@ impl FromTests for EventCuts {
         ensures tests { event_tests result ≡ take 63 tests.now }
         ensures law { Cut (event_tests result) }
     {
-        let mut own = [EventTest {
-            low: 0,
-            high: 0,
-            inverted: false,
-        }; 63];
-        let used = keep(&mut own, tests);
-        let table = table::tabulate(&own[..used]);
-        EventCuts {
-            tests: own,
-            used,
-            table,
-        }
+        let tests = keep(tests);
+        let table = table::tabulate(&tests);
+        EventCuts { tests, table }
     }
 }

@@ -12,7 +12,7 @@ pub enum Place {}
 pub enum Position {}
 
 // A set of numbers 0 to 63 that are of one kind. A number above 63 is never a member.
-#[derive_where(Clone, Copy, PartialEq, Eq)]
+#[derive_where(Clone, Copy, Default, PartialEq, Eq)]
 pub struct BitSet<K> {
     bits: u64,
     kind: PhantomData<K>,

@@ -3,4 +3,4 @@ use Rattle.byte_classes.specs.Tables.{row}
 use Rattle.byte_classes.proofs.table.row.Given as goal
 
 abbrev pub invariant-loop-test : goal.invariant-loop-test
-invariant-loop-test l = (l.digits ≡ row (take l.test-index l.tests) l.byte) × (l.digits < 2 ^ l.test-index)
+invariant-loop-test l = (l.digits ≡ row (take l.test-index l.test-items) l.byte) × (l.digits < 2 ^ l.test-index)

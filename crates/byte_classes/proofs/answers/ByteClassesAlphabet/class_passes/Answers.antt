@@ -1,5 +1,4 @@
 use Rattle.std.proofs.Common.{ap, ◌∙◌, inr, arith}
-use Rattle.std.proofs.lemmas.List.{length-take}
 use Rattle.byte_classes.specs.Classes.{byte_accepts}
 use Rattle.byte_classes.specs.Own.{byte_tests}
 use Rattle.byte_classes.specs.Bytewise.{bytes_untested}
@@ -11,4 +10,4 @@ returns c =
     let a = c.args.self.now in
     let ts = byte_tests a in
     c.has.ensures ∙ ap (λ f. f c.args.test) c.passing.ensures
-    ∙ held (byte_accepts ts c.args.class) 63 c.args.test (omega arith) (λ j l. bytes_untested ts c.args.class j (inr (omega (arith, length-take a.used a.tests, a.few))))
+    ∙ held (byte_accepts ts c.args.class) 63 c.args.test (omega arith) (λ j l. bytes_untested ts c.args.class j (inr (omega (arith, a.few))))
