@@ -2,7 +2,7 @@
 use Rattle.std.specs.Prelude.{◌≡◌, ℕ, ◌+◌, ◌*◌, ◌<◌, ◌≤◌, cond, List, length, fold, ◌≢◌, slice_index, slice_index_or}
 use Rattle.sets.specs.Members.{Members, shared, below}
 use Rattle.sets.specs.Positions.{holds, width}
-use Rattle.sets.specs.declared.positions.PositionSet.{PositionSet}
+use Rattle.sets.specs.Positions.{PositionSet}
 use Rattle.symbols.specs.declared.ByteTest.{ByteTest}
 use Rattle.symbols.specs.Tests.{passes_byte}
 use Rattle.byte_classes.specs.declared.table.ByteTable.{ByteTable}

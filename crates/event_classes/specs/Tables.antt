@@ -2,7 +2,7 @@
 use Rattle.std.specs.Prelude.{◌≡◌, ℕ, ◌+◌, ◌*◌, ◌<◌, List, length, slice_index_or}
 use Rattle.sets.specs.Members.{Members, shared, below}
 use Rattle.sets.specs.Positions.{holds, width}
-use Rattle.sets.specs.declared.positions.PositionSet.{PositionSet}
+use Rattle.sets.specs.Positions.{PositionSet}
 use Rattle.symbols.specs.declared.EventTest.{EventTest}
 use Rattle.symbols.specs.Tests.{passes_code}
 use Rattle.event_classes.specs.declared.table.KindClasses.{KindClasses}
