@@ -1,6 +1,6 @@
 // What an alphabet of events looks up.
 ghost use Rattle.std.specs.Prelude.{◌≡◌, ℕ, ◌+◌, ◌<◌, length, slice_index_or};
-ghost use Rattle.sets.specs.Positions.{holds};
+ghost use Rattle.sets.specs.Positions.{holds, PositionSet};
 ghost use Rattle.event_classes.specs.Cuts.{lowest_code};
 ghost use Rattle.event_classes.specs.Tables.{passed_code, KindRight, KindsRight, CutRight, CutTold};
 
