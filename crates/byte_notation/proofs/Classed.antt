@@ -9,16 +9,16 @@ use Rattle.byte_notation.proofs.Fronts.{eight_names}
 -- what a text begins with, and what stands behind
 front : (fs ts : List ℕ) → starts fs ts ≡ true → (behind : List ℕ) × (ts ≡ fs ++ behind)
 front [] ts e = (ts, refl)
-front (f ∷ fs) [] e = absurd (let z : ◌≡◌ {A = ℕ} 0 1 = cc in omega arith)
+front (f ∷ fs) [] e = cc
 front (f ∷ fs) (t ∷ ts) e = at (eqb t f) refl e (front fs ts)
   where
     at : (b : Bool) → eqb t f ≡ b → cond b (starts fs ts) false ≡ true → (starts fs ts ≡ true → (behind : List ℕ) × (ts ≡ fs ++ behind)) → (behind : List ℕ) × (t ∷ ts ≡ f ∷ fs ++ behind)
     at true k e go = let r = go e in (r.0, λ i. eqb-true t f k i ∷ r.1 i)
-    at false k e go = absurd (let z : ◌≡◌ {A = ℕ} 0 1 = cc in omega arith)
+    at false k e go = cc
 
 -- the class that is found is the k-th of the names
 found : (j i : ℕ) (ns : List (List ℕ)) (ts : List ℕ) → class_from j ns ts ≡ Some i → (k : ℕ) × (i ≡ j + k) × (k < length ns) × (starts (spelled (get_or ns k [])) ts ≡ true)
-found j i [] ts e = absurd (let z : ◌≡◌ {A = ℕ} 0 1 = cc in omega arith)
+found j i [] ts e = cc
 found j i (n ∷ ns) ts e = at (starts (spelled n) ts) refl e (found (j + 1) i ns ts)
   where
     at : (b : Bool) → starts (spelled n) ts ≡ b → cond b (Some j) (class_from (j + 1) ns ts) ≡ Some i
@@ -57,8 +57,7 @@ class_complete i behind h = each i behind h
 pub no_class : (ts : List ℕ) → class_at ts ≡ None → NoClass ts
 no_class ts e i behind h s =
     let z : ◌≡◌ {A = Option ℕ} (Some i) None = sym (each i behind h) ∙ ap class_at (sym s) ∙ e in
-    let y : ◌≡◌ {A = ℕ} 0 1 = cc in
-    omega arith
+    cc
 
 pub class_none : (ts : List ℕ) → NoClass ts → class_at ts ≡ None
 class_none ts d = at (class_at ts) refl

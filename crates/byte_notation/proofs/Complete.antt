@@ -1,9 +1,10 @@
 -- What stands in a text is read.
 use Rattle.std.proofs.Common.{◌≡◌, ℕ, suc, ◌+◌, ◌-◌, ◌<◌, ◌≤◌, Bool, true, false, cond, eqb, List, [], ◌∷◌, ◌++◌, length, get_or, drop, Some, None, Ok, Err, codes, Result, sym, refl, ap, ◌∙◌, subst, ⊎_elim, arith, length-append}
 use Rattle.std.proofs.lemmas.List.{drop_at}
-use Rattle.std.proofs.lemmas.Bool.{eq-eqb, ne_eqb, le-ltb, lt-ltb, eqb-true, or_cases, or_parts, cond-false}
+use Rattle.std.proofs.lemmas.Bool.{eq-eqb, ne_eqb, le-ltb, lt-ltb, eqb-true, or_cases, cond-false, false_from_ne_true}
+use Rattle.std.proofs.lemmas.Bool.Decides.{nat_tests}
 use borrow.Author.Tests.{clash}
-use Rattle.items.specs.Lexemes.{signed, atom}
+use Rattle.items.specs.Lexemes.{sign_byte, signed, atom}
 use Rattle.items.specs.declared.Sign.{Sign}
 use Rattle.items.specs.declared.Sign.TheVariants.{Open, Close, Bar, Star, Plus, Query}
 use Rattle.refusal.specs.declared.Cause.{Cause}
@@ -19,7 +20,7 @@ use Rattle.byte_notation.specs.Atoms.{one_of, NoRange, Member, class, range, byt
 use Rattle.byte_notation.specs.Brackets as read
 use Rattle.byte_notation.specs.Brackets.{after, range_end, ranged, class_else, member_at, width, with_ranges, with_member, proceed, members, bracketed, tested}
 use Rattle.byte_notation.specs.Lexing.{lexed, item, refused, only_byte, any_byte, escape_of, escaped as escaped_as}
-use Rattle.byte_notation.specs.Law.{sign_byte, Passes}
+use Rattle.byte_notation.specs.Law.{Passes}
 use Rattle.byte_notation.specs.Classes.{names, span, starts, class_width}
 use Rattle.byte_notation.proofs.Classed.{class_complete, class_none}
 use Rattle.byte_notation.proofs.Fronts.{class_unopened}
@@ -177,26 +178,7 @@ one_of_lem P b (c ∷ cs) all e =
 
 -- a byte that is none of the special ones stands for itself
 plain_read : (place b : ℕ) (behind : List ℕ) → one_of b (codes "()|*+?.\\[{^$") ≡ false → item place b behind ≡ Ok (atom (only_byte b) 1)
-plain_read place b behind e =
-    let p0 = or_parts (eqb b 40) _ e in
-    let p1 = or_parts (eqb b 41) _ p0.1 in
-    let p2 = or_parts (eqb b 124) _ p1.1 in
-    let p3 = or_parts (eqb b 42) _ p2.1 in
-    let p4 = or_parts (eqb b 43) _ p3.1 in
-    let p5 = or_parts (eqb b 63) _ p4.1 in
-    let p6 = or_parts (eqb b 46) _ p5.1 in
-    let p7 = or_parts (eqb b 92) _ p6.1 in
-    let p8 = or_parts (eqb b 91) _ p7.1 in
-    cond-false (eqb b 40) _ _ p0.0
-    ∙ cond-false (eqb b 41) _ _ p1.0
-    ∙ cond-false (eqb b 124) _ _ p2.0
-    ∙ cond-false (eqb b 42) _ _ p3.0
-    ∙ cond-false (eqb b 43) _ _ p4.0
-    ∙ cond-false (eqb b 63) _ _ p5.0
-    ∙ cond-false (eqb b 46) _ _ p6.0
-    ∙ cond-false (eqb b 92) _ _ p7.0
-    ∙ cond-false (eqb b 91) _ _ p8.0
-    ∙ cond-false (one_of b (codes "{^$")) _ _ p8.1
+plain_read place b behind e = grind (arith, nat_tests)
 
 escape_read : (place c b : ℕ) (behind : List ℕ) → Escape c b → lexed place (92 ∷ c ∷ behind) ≡ Ok (atom (only_byte b) 2)
 escape_read place c b behind line_feed = refl
@@ -206,16 +188,12 @@ escape_read place c b behind (itself b' e) =
     one_of_lem (λ n. lexed place (92 ∷ n ∷ behind) ≡ Ok (atom (only_byte n) 2)) b' (codes "()|*+?[]{}.\\^$")
     (refl, (refl, (refl, (refl, (refl, (refl, (refl, (refl, (refl, (refl, (refl, (refl, (refl, (refl, tt)))))))))))))) e
 
-is_false : (b : Bool) → (b ≡ true → ⊥) → b ≡ false
-is_false true d = absurd (d refl)
-is_false false d = refl
-
 unknown_escape : (c : ℕ) → ((b : ℕ) → Escape c b → ⊥) → escape_of c ≡ None
 unknown_escape c d =
-    cond-false (eqb c 110) _ _ (is_false (eqb c 110) (λ e. d 10 (subst (λ n. Escape n 10) (sym (eqb-true c 110 e)) line_feed)))
-    ∙ cond-false (eqb c 116) _ _ (is_false (eqb c 116) (λ e. d 9 (subst (λ n. Escape n 9) (sym (eqb-true c 116 e)) tab)))
-    ∙ cond-false (eqb c 114) _ _ (is_false (eqb c 114) (λ e. d 13 (subst (λ n. Escape n 13) (sym (eqb-true c 114 e)) carriage_return)))
-    ∙ cond-false (one_of c (codes "()|*+?[]{}.\\^$")) _ _ (is_false (one_of c (codes "()|*+?[]{}.\\^$")) (λ e. d c (itself c e)))
+    cond-false (eqb c 110) _ _ (false_from_ne_true (eqb c 110) (λ e. d 10 (subst (λ n. Escape n 10) (sym (eqb-true c 110 e)) line_feed)))
+    ∙ cond-false (eqb c 116) _ _ (false_from_ne_true (eqb c 116) (λ e. d 9 (subst (λ n. Escape n 9) (sym (eqb-true c 116 e)) tab)))
+    ∙ cond-false (eqb c 114) _ _ (false_from_ne_true (eqb c 114) (λ e. d 13 (subst (λ n. Escape n 13) (sym (eqb-true c 114 e)) carriage_return)))
+    ∙ cond-false (one_of c (codes "()|*+?[]{}.\\^$")) _ _ (false_from_ne_true (one_of c (codes "()|*+?[]{}.\\^$")) (λ e. d c (itself c e)))
 
 pub signs_read : (place : ℕ) (s : Sign) (behind : List ℕ) → lexed place (sign_byte s ∷ behind) ≡ Ok (signed s)
 signs_read place Open behind = refl

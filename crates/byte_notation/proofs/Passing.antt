@@ -1,5 +1,6 @@
 -- Which bytes pass the tests that are read.
 use Rattle.std.proofs.Common.{◌≡◌, ℕ, ◌+◌, ◌-◌, ◌<◌, Bool, true, false, not, ◌&&◌, ◌||◌, eqb, List, [], ◌∷◌, ◌++◌, length, sym, refl, ap, ◌∙◌, arith, length-set}
+use Rattle.std.proofs.Math.Bool.{or-false, or_assoc, or_comm}
 use Rattle.symbols.specs.declared.ByteTest.{ByteTest}
 use Rattle.symbols.specs.Tests.{passes_byte}
 use Rattle.symbols.specs.ByteSets.{no_byte, with_byte, with_bytes, with_range, between}
@@ -20,28 +21,18 @@ ranges_32 : (t : ByteTest) (rs : List ByteRange) → length t.bits ≡ 32 → le
 ranges_32 t [] e = e
 ranges_32 t (r ∷ rs) e = ranges_32 (with_range t r.low r.high) rs (length_bytes (r.high + 1 - r.low) t r.low ∙ e)
 
-shuffle : (a b p : Bool) → (a || (b || p)) ≡ ((b || a) || p)
-shuffle true true p = refl
-shuffle true false p = refl
-shuffle false true p = refl
-shuffle false false p = refl
-
 ranges_added : (t : ByteTest) (rs : List ByteRange) → length t.bits ≡ 32 → (x : ℕ) → x < 256 → passes_byte (with_ranges t rs) x ≡ (named rs x || passes_byte t x)
 ranges_added t [] e x h = refl
 ranges_added t (r ∷ rs) e x h =
     ranges_added (with_range t r.low r.high) rs (length_bytes (r.high + 1 - r.low) t r.low ∙ e) x h
     ∙ ap (λ p. named rs x || p) (range_added t r.low r.high e x h)
-    ∙ shuffle (named rs x) (between r.low r.high x) (passes_byte t x)
-
-or_nothing : (a : Bool) → (a || false) ≡ a
-or_nothing true = refl
-or_nothing false = refl
+    ∙ sym (or_assoc (named rs x) (between r.low r.high x) (passes_byte t x)) ∙ ap (λ b. b || passes_byte t x) (or_comm (named rs x) (between r.low r.high x))
 
 ranges_pass : (rs : List ByteRange) → Passes (with_ranges no_byte rs) (named rs)
-ranges_pass rs x h = ranges_added no_byte rs none_32 x h ∙ ap (λ p. named rs x || p) (nothing x) ∙ or_nothing (named rs x)
+ranges_pass rs x h = ranges_added no_byte rs none_32 x h ∙ ap (λ p. named rs x || p) (nothing x) ∙ or-false (named rs x)
 
 pub only_passes : (b : ℕ) → Passes (only_byte b) (λ x. eqb x b)
-only_passes b x h = byte_added no_byte b none_32 x h ∙ ap (λ p. eqb x b || p) (nothing x) ∙ or_nothing (eqb x b)
+only_passes b x h = byte_added no_byte b none_32 x h ∙ ap (λ p. eqb x b || p) (nothing x) ∙ or-false (eqb x b)
 
 pub any_passes : Passes any_byte (λ x. not (eqb x 10))
 any_passes x h = inverts (only_byte 10) (byte_32 no_byte 10 none_32) x h ∙ ap not (only_passes 10 x h)

@@ -1,11 +1,13 @@
 -- What is read stands in the text.
 use Rattle.std.proofs.Common.{◌≡◌, ℕ, zero, suc, ◌+◌, ◌-◌, ◌<◌, ◌≤◌, Bool, true, false, cond, eqb, ◌⊎◌, List, [], ◌∷◌, ◌++◌, length, get_or, drop, Some, None, codes, Option, Result, sym, refl, ap, ◌∙◌, subst, inl, inr, ⊎_elim, arith}
+use Rattle.std.proofs.lemmas.Bool.Decides.{nat_tests}
 use borrow.Author.Tests.{clash}
 use Rattle.std.proofs.lemmas.List.{drop_more}
-use Rattle.std.proofs.lemmas.Bool.{eqb-true, eqb-false, ne_eqb, cases_eq, cases_lt, cases_Bool, or_from}
+use Rattle.std.proofs.lemmas.Bool.{eqb-true, eqb-false, ne_eqb, cases_eq, cases_lt, cases_Bool}
 use Rattle.refusal.specs.declared.Cause.{Cause}
 use Rattle.refusal.specs.declared.Refusal.{Refusal}
 use Rattle.items.specs.declared.Lexeme.{Lexeme}
+use Rattle.items.specs.Lexemes.{sign_byte}
 use Rattle.items.specs.declared.Sign.{Sign}
 use Rattle.items.specs.declared.Sign.TheVariants.{Open, Close, Bar, Star, Plus, Query}
 use Rattle.symbols.specs.declared.ByteTest.{ByteTest}
@@ -15,7 +17,7 @@ use Rattle.byte_notation.specs.declared.brackets.State.TheVariants.{NoMember, Me
 use Rattle.byte_notation.specs.Atoms.{one_of, NoRange, Member, class, range, byte, MayBegin, Run, none, more, Opened, straight, caret, Escape, line_feed, tab, carriage_return, itself, Atom, dot, plain, escaped, bracket, Refused, nothing_begins, escape_last, escape_unknown, unclosed, reversed}
 use Rattle.byte_notation.specs.Brackets.{range_end}
 use Rattle.byte_notation.specs.Classes.{ranges, span, class_at}
-use Rattle.byte_notation.specs.Law.{Lawful, Reads, sign_byte}
+use Rattle.byte_notation.specs.Law.{Lawful, Reads}
 use Rattle.byte_notation.specs.Lexing.{lexed}
 use Rattle.byte_notation.proofs.Classed.{class_sound, no_class}
 use Rattle.byte_notation.proofs.Complete.{found, run_length, entered, signs_read, atoms_read, refusals_read}
@@ -27,16 +29,16 @@ data Next (text : List ℕ) : Type 0 where
   wrong : (low high : ℕ) (rest : List ℕ) → text ≡ low ∷ 45 ∷ high ∷ rest → (high ≡ 93 → ⊥) → high < low → Next text
 
 range_found : (rest : List ℕ) (high : ℕ) → range_end rest ≡ Some high → (behind : List ℕ) × (rest ≡ 45 ∷ high ∷ behind) × (high ≡ 93 → ⊥)
-range_found [] high e = absurd (let z : ◌≡◌ {A = ℕ} 0 1 = cc in omega arith)
-range_found (m ∷ []) high e = absurd (let z : ◌≡◌ {A = ℕ} 0 1 = cc in omega arith)
+range_found [] high e = cc
+range_found (m ∷ []) high e = cc
 range_found (m ∷ h ∷ rest) high e = at (eqb m 45) (eqb h 93) refl refl e
   where
     at : (x y : Bool) → eqb m 45 ≡ x → eqb h 93 ≡ y → cond x (cond y None (Some h)) None ≡ Some high → (behind : List ℕ) × (m ∷ h ∷ rest ≡ 45 ∷ high ∷ behind) × (high ≡ 93 → ⊥)
-    at true true p q e = absurd (let z : ◌≡◌ {A = ℕ} 0 1 = cc in omega arith)
+    at true true p q e = cc
     at true false p q e =
         let k : h ≡ high = cc in
         (rest, (λ i. eqb-true m 45 p i ∷ k i ∷ rest), λ n. eqb-false h 93 q (k ∙ n))
-    at false y p q e = absurd (let z : ◌≡◌ {A = ℕ} 0 1 = cc in omega arith)
+    at false y p q e = cc
 
 range_missed : (rest : List ℕ) → range_end rest ≡ None → NoRange rest
 range_missed rest e high behind s = at (cases_eq high 93)
@@ -45,7 +47,7 @@ range_missed rest e high behind s = at (cases_eq high 93)
     at (inl k) = k
     at (inr d) =
         let z : ◌≡◌ {A = Option ℕ} (Some high) None = sym (ap (λ c. cond c None (Some high)) (ne_eqb high 93 d)) ∙ ap range_end (sym s) ∙ e in
-        let y : ◌≡◌ {A = ℕ} 0 1 = cc in absurd (omega arith)
+        cc
 
 next : (c : ℕ) (rest : List ℕ) → Next (c ∷ rest)
 next c rest = at (class_at (c ∷ rest)) refl
@@ -86,10 +88,10 @@ go_on s text mb (one mid rs m) rec =
 go_on s text mb (wrong low high rest e d h) rec = fails s [] low high rest (subst (λ x. Run s text s x []) e none) (subst (MayBegin s) e mb) d h
 
 open_yet : Members ≡ Closed → ⊥
-open_yet e = let z : ◌≡◌ {A = ℕ} 0 1 = cc in omega arith
+open_yet e = cc
 
 unread : NoMember ≡ Closed → ⊥
-unread e = let z : ◌≡◌ {A = ℕ} 0 1 = cc in omega arith
+unread e = cc
 
 -- every bracket has an outcome
 total : (n : ℕ) (s : State) (text : List ℕ) → length text ≤ n → (s ≡ Closed → ⊥) → Outcome s text
@@ -134,7 +136,7 @@ bracket_sound : (place : ℕ) (rest : List ℕ) → Reads place (91 ∷ rest) (l
 bracket_sound place [] = opened_sound place {inner = []} (straight {inner = []} no_caret)
   where
     no_caret : (r : List ℕ) → [] ≡ 94 ∷ r → ⊥
-    no_caret r e = let z : ◌≡◌ {A = ℕ} 0 1 = cc in omega arith
+    no_caret r e = cc
 bracket_sound place (c ∷ rest) =
     at_byte (λ n. Reads place (91 ∷ n ∷ rest) (lexed place (91 ∷ n ∷ rest))) c 94
     (opened_sound place {inner = rest} (caret {inner = rest}))
@@ -176,16 +178,7 @@ sound place b rest =
     (λ (e : one_of b (codes "{^$") ≡ true). reads_refused place (nothing_begins b {rest = rest} e))
     (λ (e : one_of b (codes "{^$") ≡ false).
     reads_atom place {behind = rest}
-    (plain b {behind = rest}
-    (or_from (eqb b 40) _ (ne_eqb b 40 n0)
-    (or_from (eqb b 41) _ (ne_eqb b 41 n1)
-    (or_from (eqb b 124) _ (ne_eqb b 124 n2)
-    (or_from (eqb b 42) _ (ne_eqb b 42 n3)
-    (or_from (eqb b 43) _ (ne_eqb b 43 n4)
-    (or_from (eqb b 63) _ (ne_eqb b 63 n5)
-    (or_from (eqb b 46) _ (ne_eqb b 46 n6)
-    (or_from (eqb b 92) _ (ne_eqb b 92 n7)
-    (or_from (eqb b 91) _ (ne_eqb b 91 n8) e)))))))))))
+    (plain b {behind = rest} (grind (arith, nat_tests))))
     (cases_Bool (one_of b (codes "{^$"))))))))))))
 
 -- at a place of a text

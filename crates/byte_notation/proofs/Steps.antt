@@ -5,11 +5,10 @@ use Rattle.std.proofs.lemmas.Bool.{le-ltb}
 use Rattle.refusal.specs.declared.Cause.TheVariants.{ReversedRange}
 use Rattle.refusal.specs.declared.Refusal.{Refusal}
 use Rattle.symbols.specs.declared.ByteTest.{ByteTest}
-use Rattle.symbols.specs.ByteSets.{no_byte}
 use Rattle.byte_notation.specs.declared.brackets.State.{State}
 use Rattle.byte_notation.specs.declared.brackets.State.TheVariants.{NoMember, Members, Closed}
 use Rattle.byte_notation.specs.Classes.{class_at, span}
-use Rattle.byte_notation.specs.Brackets.{Member, Class, Range, Byte, after, range_end, ranged, class_else, member_at, width, with_member, with_read, taken, behind, proceed, members, caret, bracketed, bracket}
+use Rattle.byte_notation.specs.Brackets.{Member, Class, Range, Byte, after, range_end, ranged, class_else, member_at, width, with_member, with_read, taken, behind, proceed, members}
 
 -- a range, which is no class, takes three bytes
 pub range_behind : (p q : ℕ) (ts left : List ℕ) (high : ℕ) → q < length ts → class_at (drop q ts) ≡ None → left ≡ drop q ts → Some high ≡ range_end (drop 1 left) → get_or left 0 0 ≤ high
@@ -83,12 +82,3 @@ behind_more (Err e) q = omega arith
 pub behind_sum : (r : Result Member Refusal) (p q : ℕ) → behind r (p + q) ≡ p + behind r q
 behind_sum (Ok m) p q = omega arith
 behind_sum (Err e) p q = refl
-
--- a bracket from its opening on
-pub whole : (p : ℕ) (inverted : Bool) (ts : List ℕ) → inverted ≡ caret (drop 1 ts)
-    → bracketed inverted (members p NoMember no_byte (p + (1 + cond inverted 1 0)) 0 (drop (1 + cond inverted 1 0) ts)) ≡ bracket p (drop 1 ts)
-whole p inverted ts c =
-    let k : ℕ = cond inverted 1 0 in
-    let e : p + (1 + k) ≡ p + 1 + k = omega arith in
-    ap (bracketed inverted) ((λ i. members p NoMember no_byte (e i) 0 (sym (drop-drop k 1 ts) i)) ∙ sym (skip p NoMember no_byte (p + 1) k (drop 1 ts)))
-    ∙ ap (λ b. bracketed b (members p NoMember no_byte (p + 1) (cond b 1 0) (drop 1 ts))) c

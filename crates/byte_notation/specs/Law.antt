@@ -4,22 +4,13 @@ use Rattle.refusal.specs.declared.Cause.{Cause}
 use Rattle.refusal.specs.declared.Refusal.{Refusal}
 use Rattle.items.specs.declared.Lexeme.{Lexeme}
 use Rattle.items.specs.declared.Sign.{Sign}
-use Rattle.items.specs.declared.Sign.TheVariants.{Open, Close, Bar, Star, Plus, Query}
 use Rattle.items.specs.declared.Token.{Token}
 use Rattle.items.specs.declared.Token.TheVariants as token
 use Rattle.symbols.specs.declared.ByteTest.{ByteTest}
 use Rattle.symbols.specs.Tests.{passes_byte}
 use Rattle.byte_notation.specs.Atoms.{Atom, Refused}
-use Rattle.items.specs.Lexemes.{signed, atom}
+use Rattle.items.specs.Lexemes.{sign_byte, signed, atom}
 use Rattle.byte_notation.specs.Lexing.{lexed, refused}
-
-abbrev pub sign_byte : Sign → ℕ
-sign_byte Open = 40
-sign_byte Close = 41
-sign_byte Bar = 124
-sign_byte Star = 42
-sign_byte Plus = 43
-sign_byte Query = 63
 
 -- the test passes exactly these bytes
 abbrev pub Passes : ByteTest → (ℕ → Bool) → Type 0

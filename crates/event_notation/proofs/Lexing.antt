@@ -1,6 +1,6 @@
 -- Each atom is read, and its test passes the events that it means.
-use Rattle.std.proofs.Common.{◌≡◌, ℕ, ◌+◌, ◌≤◌, true, false, leb, List, [], ◌∷◌, ◌++◌, length, Ok, Result, sym, ap, ◌∙◌, subst, append_assoc, arith}
-use Rattle.std.proofs.lemmas.Bool.{cond-true, cond-false, and_parts, leb-true, ne_eqb}
+use Rattle.std.proofs.Common.{◌≡◌, ℕ, ◌+◌, ◌≤◌, true, false, List, [], ◌∷◌, ◌++◌, length, Ok, Result, sym, ap, ◌∙◌, subst, append_assoc, arith}
+use Rattle.std.proofs.lemmas.Bool.Decides.{nat_tests}
 use Rattle.refusal.specs.declared.Refusal.{Refusal}
 use Rattle.items.specs.declared.Token.TheVariants.{Atom}
 use Rattle.items.specs.declared.Lexeme.{Lexeme}
@@ -15,14 +15,7 @@ use Rattle.event_notation.proofs.Passing.{Small, passing}
 use Rattle.event_notation.proofs.Coding.{codes_each}
 
 pub digit_start : (b : ℕ) → digit b ≡ true → start_of b ≡ Digit
-digit_start b e =
-    let p = and_parts (leb 48 b) (leb b 57) e in
-    let low : 48 ≤ b = leb-true 48 b p.0 in
-    let top : b ≤ 57 = leb-true b 57 p.1 in
-    cond-false _ _ _ (ne_eqb b 32 (λ h. omega arith)) ∙ cond-false _ _ _ (ne_eqb b 40 (λ h. omega arith)) ∙ cond-false _ _ _ (ne_eqb b 41 (λ h. omega arith))
-    ∙ cond-false _ _ _ (ne_eqb b 124 (λ h. omega arith)) ∙ cond-false _ _ _ (ne_eqb b 42 (λ h. omega arith)) ∙ cond-false _ _ _ (ne_eqb b 43 (λ h. omega arith))
-    ∙ cond-false _ _ _ (ne_eqb b 63 (λ h. omega arith)) ∙ cond-false _ _ _ (ne_eqb b 46 (λ h. omega arith)) ∙ cond-false _ _ _ (ne_eqb b 33 (λ h. omega arith))
-    ∙ cond-true _ _ _ e
+digit_start b e = grind (arith, nat_tests)
 
 abbrev pub atom : Meaning → ℕ → Lexeme EventTest
 atom m w = record { token = Atom (test_of m); width = w }

@@ -1,6 +1,6 @@
 -- A test passes exactly the events that its atom means.
 use Rattle.std.proofs.Common.{◌≡◌, ℕ, ◌+◌, ◌*◌, ◌≤◌, Bool, true, false, not, ◌&&◌, eqb, leb, sym, refl, ap, arith}
-use Rattle.std.proofs.lemmas.Bool.{and_parts, and_from, le-leb, leb-true, eqb-true, eq-eqb}
+use Rattle.std.proofs.lemmas.Bool.Decides.{nat_tests}
 use Rattle.symbols.specs.declared.Event.{Event}
 use Rattle.symbols.specs.Tests.{passes_code, code_of}
 use Rattle.event_notation.specs.Atoms.{Meaning, any, some, others, picks, test_of}
@@ -14,21 +14,7 @@ same_answer false false f g = refl
 -- the codes of a kind's values lie side by side
 in_span : (k l h x y : ℕ) → h ≤ 65535 → y ≤ 65535
     → (leb (k * 65536 + l) (x * 65536 + y) && leb (x * 65536 + y) (k * 65536 + h)) ≡ (eqb x k && (leb l y && leb y h))
-in_span k l h x y high value =
-    same_answer _ _
-    (λ e.
-    let p = and_parts (leb (k * 65536 + l) (x * 65536 + y)) (leb (x * 65536 + y) (k * 65536 + h)) e in
-    let low = leb-true (k * 65536 + l) (x * 65536 + y) p.0 in
-    let top = leb-true (x * 65536 + y) (k * 65536 + h) p.1 in
-    let kind : x ≡ k = omega arith in
-    and_from _ _ (eq-eqb x k kind) (and_from _ _ (le-leb l y (omega arith)) (le-leb y h (omega arith))))
-    (λ e.
-    let p = and_parts (eqb x k) (leb l y && leb y h) e in
-    let q = and_parts (leb l y) (leb y h) p.1 in
-    let kind = eqb-true x k p.0 in
-    let low = leb-true l y q.0 in
-    let top = leb-true y h q.1 in
-    and_from _ _ (le-leb (k * 65536 + l) (x * 65536 + y) (omega arith)) (le-leb (x * 65536 + y) (k * 65536 + h) (omega arith)))
+in_span k l h x y high value = grind (arith, nat_tests)
 
 -- the values that an atom names
 abbrev pub Small : Meaning → Type 0
@@ -37,7 +23,6 @@ Small (some kind low high) = high ≤ 65535
 Small (others kind low high) = high ≤ 65535
 
 pub passing : (m : Meaning) → Small m → (e : Event) → e.kind ≤ 255 → e.value ≤ 65535 → passes_code (test_of m) (code_of e) ≡ picks m e
-passing any small e kind value =
-    and_from _ _ (le-leb 0 _ (omega arith)) (le-leb (e.kind * 65536 + e.value) 16777215 (omega arith))
+passing any small e kind value = grind (arith, nat_tests)
 passing (some k l h) small e kind value = in_span k l h e.kind e.value small value
 passing (others k l h) small e kind value = ap not (in_span k l h e.kind e.value small value)

@@ -1,6 +1,6 @@
 -- Each refusal that stands in a text is the answer.
-use Rattle.std.proofs.Common.{◌≡◌, ℕ, ◌+◌, true, false, List, ◌∷◌, drop, Ok, Err, sym, ap, ◌∙◌}
-use Rattle.std.proofs.lemmas.Bool.{cond-false, ne_eqb}
+use Rattle.std.proofs.Common.{arith, ◌≡◌, ℕ, ◌+◌, true, false, List, ◌∷◌, drop, Ok, Err, sym, ap, ◌∙◌}
+use Rattle.std.proofs.lemmas.Bool.Decides.{nat_tests}
 use Rattle.refusal.specs.declared.Cause.{Cause}
 use Rattle.refusal.specs.declared.Cause.TheVariants.{BadNumber}
 use Rattle.refusal.specs.declared.Refusal.{Refusal}
@@ -16,11 +16,7 @@ use Rattle.event_notation.proofs.Coding.{values_none}
 use Rattle.event_notation.proofs.Lexing.{digit_start}
 
 nothing_start : (b : ℕ) → BeginsNothing b → start_of b ≡ Nothing
-nothing_start b n =
-    cond-false _ _ _ (ne_eqb b 32 n.no_space) ∙ cond-false _ _ _ (ne_eqb b 40 (n.no_sign Open)) ∙ cond-false _ _ _ (ne_eqb b 41 (n.no_sign Close))
-    ∙ cond-false _ _ _ (ne_eqb b 124 (n.no_sign Bar)) ∙ cond-false _ _ _ (ne_eqb b 42 (n.no_sign Star)) ∙ cond-false _ _ _ (ne_eqb b 43 (n.no_sign Plus))
-    ∙ cond-false _ _ _ (ne_eqb b 63 (n.no_sign Query)) ∙ cond-false _ _ _ (ne_eqb b 46 n.no_dot) ∙ cond-false _ _ _ (ne_eqb b 33 n.no_bang)
-    ∙ cond-false _ _ _ n.no_digit
+nothing_start b n = grind (arith, nat_tests, n.no_sign Open, n.no_sign Close, n.no_sign Bar, n.no_sign Star, n.no_sign Plus, n.no_sign Query)
 
 -- what is read from a number on is refused
 abbrev Fails : Part → ℕ → List ℕ → Refusal → Type 0

@@ -6,6 +6,7 @@ use Rattle.refusal.specs.declared.Cause.{Cause}
 use Rattle.refusal.specs.declared.Cause.TheVariants.{ReversedRange, BadNumber}
 use Rattle.refusal.specs.declared.Refusal.{Refusal}
 use Rattle.items.specs.declared.Lexeme.{Lexeme}
+use Rattle.items.specs.Lexemes.{sign_byte}
 use Rattle.items.specs.declared.Sign.{Sign as OneSign}
 use Rattle.items.specs.declared.Sign.TheVariants.{Open, Close, Bar, Star, Plus, Query}
 use Rattle.items.specs.declared.Token.{Token}
@@ -15,7 +16,7 @@ use Rattle.event_notation.specs.Numbers.{digit}
 use Rattle.event_notation.specs.Spans.{begins}
 use Rattle.event_notation.specs.Reading.{lexed}
 use Rattle.event_notation.specs.Atoms.{Meaning, any, some, others, Numeral, Form, dot, kind_alone, one_value, two_values, Selected, is_dot, is_plain, is_inverted, goes_on, Ends, AtomAt}
-use Rattle.event_notation.specs.Refusals.{sign_byte, the_kind, first_value, second_value, Due, in_front, behind_bang, behind_colon, behind_dash, Refused, nothing_begins, no_number, reversed}
+use Rattle.event_notation.specs.Refusals.{the_kind, first_value, second_value, Due, in_front, behind_bang, behind_colon, behind_dash, Refused, nothing_begins, no_number, reversed}
 use Rattle.event_notation.specs.Law.{Stands, Reads, Law, Lawful}
 use Rattle.event_notation.proofs.Numerals.{Front, number, none, front}
 use Rattle.event_notation.proofs.Valuing.{begins_split, ends_with}

@@ -11,7 +11,7 @@ use Rattle.event_notation.specs.Atoms.{Numeral, Form, dot, kind_alone, one_value
 use Rattle.event_notation.proofs.Numerals.{number_each}
 
 pub begins_split : (c : ℕ) (bs : List ℕ) → begins c bs ≡ true → bs ≡ c ∷ drop 1 bs
-begins_split c [] e = let z : ◌≡◌ {A = ℕ} 0 1 = cc in absurd (omega arith)
+begins_split c [] e = cc
 begins_split c (b ∷ bs) e = ap (λ x. x ∷ bs) (eqb-true b c e)
 
 pub ends_with : (c : ℕ) (bs : List ℕ) → Ends digit bs → begins c bs ≡ false → Ends (λ b. digit b || eqb b c) bs

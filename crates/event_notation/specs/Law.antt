@@ -2,13 +2,14 @@
 use Rattle.std.specs.Prelude.{◌≡◌, ℕ, ◌≤◌, List, ◌∷◌, Ok, Err, Result}
 use Rattle.refusal.specs.declared.Refusal.{Refusal}
 use Rattle.items.specs.declared.Lexeme.{Lexeme}
+use Rattle.items.specs.Lexemes.{sign_byte}
 use Rattle.items.specs.declared.Token.{Token}
 use Rattle.items.specs.declared.Token.TheVariants.{Space, Sign, Atom}
 use Rattle.symbols.specs.declared.Event.{Event}
 use Rattle.symbols.specs.declared.EventTest.{EventTest}
 use Rattle.symbols.specs.Tests.{passes_code, code_of}
 use Rattle.event_notation.specs.Atoms.{Meaning, picks, test_of, AtomAt}
-use Rattle.event_notation.specs.Refusals.{sign_byte, Refused}
+use Rattle.event_notation.specs.Refusals.{Refused}
 use Rattle.event_notation.specs.Reading.{lexed}
 
 -- the test passes exactly the events that an atom means

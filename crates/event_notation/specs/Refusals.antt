@@ -4,17 +4,9 @@ use Rattle.std.specs.Prelude.{◌≡◌, ℕ, ◌+◌, ◌<◌, true, false, Lis
 use Rattle.refusal.specs.declared.Cause.{Cause}
 use Rattle.refusal.specs.declared.Cause.TheVariants.{NoItem, ReversedRange, BadNumber}
 use Rattle.items.specs.declared.Sign.{Sign}
-use Rattle.items.specs.declared.Sign.TheVariants.{Open, Close, Bar, Star, Plus, Query}
+use Rattle.items.specs.Lexemes.{sign_byte}
 use Rattle.event_notation.specs.Numbers.{digit}
 use Rattle.event_notation.specs.Atoms.{Digits, decimal, Numeral, Ends}
-
-abbrev pub sign_byte : Sign → ℕ
-sign_byte Open = 40
-sign_byte Close = 41
-sign_byte Bar = 124
-sign_byte Star = 42
-sign_byte Plus = 43
-sign_byte Query = 63
 
 -- a byte that is no space, no sign, neither . nor !, and no digit
 pub record BeginsNothing (b : ℕ) : Type 0 where
