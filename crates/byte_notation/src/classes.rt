@@ -15,65 +15,48 @@ pub struct Class {
     pub ranges: &'static [ByteRange],
 }
 
+const UPPER: ByteRange = ByteRange {
+    low: b'A',
+    high: b'Z',
+};
+
+const LOWER: ByteRange = ByteRange {
+    low: b'a',
+    high: b'z',
+};
+
+const DIGIT: ByteRange = ByteRange {
+    low: b'0',
+    high: b'9',
+};
+
+const SPACE: ByteRange = ByteRange { low: 32, high: 32 };
+
 const CLASSES: [Class; 8] = [
     Class {
         name: b"upper",
-        ranges: &[ByteRange {
-            low: b'A',
-            high: b'Z',
-        }],
+        ranges: &[UPPER],
     },
     Class {
         name: b"lower",
-        ranges: &[ByteRange {
-            low: b'a',
-            high: b'z',
-        }],
+        ranges: &[LOWER],
     },
     Class {
         name: b"alpha",
-        ranges: &[
-            ByteRange {
-                low: b'A',
-                high: b'Z',
-            },
-            ByteRange {
-                low: b'a',
-                high: b'z',
-            },
-        ],
+        ranges: &[UPPER, LOWER],
     },
     Class {
         name: b"digit",
-        ranges: &[ByteRange {
-            low: b'0',
-            high: b'9',
-        }],
+        ranges: &[DIGIT],
     },
     Class {
         name: b"alnum",
-        ranges: &[
-            ByteRange {
-                low: b'0',
-                high: b'9',
-            },
-            ByteRange {
-                low: b'A',
-                high: b'Z',
-            },
-            ByteRange {
-                low: b'a',
-                high: b'z',
-            },
-        ],
+        ranges: &[DIGIT, UPPER, LOWER],
     },
     Class {
         name: b"xdigit",
         ranges: &[
-            ByteRange {
-                low: b'0',
-                high: b'9',
-            },
+            DIGIT,
             ByteRange {
                 low: b'A',
                 high: b'F',
@@ -86,17 +69,11 @@ const CLASSES: [Class; 8] = [
     },
     Class {
         name: b"blank",
-        ranges: &[
-            ByteRange { low: 9, high: 9 },
-            ByteRange { low: 32, high: 32 },
-        ],
+        ranges: &[ByteRange { low: 9, high: 9 }, SPACE],
     },
     Class {
         name: b"space",
-        ranges: &[
-            ByteRange { low: 9, high: 13 },
-            ByteRange { low: 32, high: 32 },
-        ],
+        ranges: &[ByteRange { low: 9, high: 13 }, SPACE],
     },
 ];
 
