@@ -1,9 +1,10 @@
 -- The rows of a text, line by line.
-use Rattle.std.proofs.Common.{◌≡◌, ℕ, ◌+◌, ◌≤◌, Bool, List, [], ◌∷◌, ◌++◌, length, sym, refl, ap, ◌∙◌, append_assoc, append-nil, arith}
+use Rattle.std.proofs.Common.{◌≡◌, ℕ, ◌+◌, ◌≤◌, Bool, List, [], ◌∷◌, ◌++◌, length, Result, sym, refl, ap, ◌∙◌, append_assoc, append-nil, arith}
 use Rattle.symbols.specs.declared.Event.{Event}
 use Rattle.script.specs.Words.{up_to, past}
 use Rattle.records.specs.Pieces.{pieces}
 use Rattle.records.specs.Rows.{row_of, still_first, rows_of, good_in, bad_in, good_rows, bad_rows}
+use Rattle.records.specs.declared.csv.Fault.{Fault}
 use Rattle.records.specs.declared.csv.Row.{Row}
 use Rattle.records.specs.declared.csv.BadLine.{BadLine}
 use Rattle.records.proofs.Cut.{first}
@@ -15,7 +16,7 @@ goods es f xs = es ++ good_rows (rows_of f (pieces 10 xs))
 abbrev pub bads : List BadLine → ℕ → Bool → List ℕ → List BadLine
 bads bs n f xs = bs ++ bad_rows n (rows_of f (pieces 10 xs))
 
-module _ (f g : Bool) (xs ys : List ℕ) (r : Row) (is_row : r ≡ row_of f (up_to 10 xs)) (is_next : g ≡ still_first f r) (is_rest : ys ≡ past 10 xs) where
+module _ (f g : Bool) (xs ys : List ℕ) (r : Result Row Fault) (is_row : r ≡ row_of f (up_to 10 xs)) (is_next : g ≡ still_first f r) (is_rest : ys ≡ past 10 xs) where
   rows : row_of f (up_to 10 xs) ∷ rows_of (still_first f (row_of f (up_to 10 xs))) (pieces 10 (past 10 xs)) ≡ r ∷ rows_of g (pieces 10 ys)
   rows =
       sym (ap (λ l. r ∷ rows_of g (pieces 10 l)) is_rest ∙ ap (λ v. r ∷ rows_of v (pieces 10 (past 10 xs))) is_next

@@ -1,5 +1,5 @@
 -- Copies of a piece, one after the other.
-use Rattle.std.proofs.Common.{◌≡◌, ℕ, zero, suc, ◌-◌, ◌*◌, ◌/◌, ◌<◌, ◌≤◌, List, [], ◌∷◌, ◌++◌, length, sym, refl, ap, ◌∙◌, append_assoc, append-nil, div-lt_iff_lt-mul, mul-zero, le-div_iff_mul-le, sub-one, arith}
+use Rattle.std.proofs.Common.{◌≡◌, ℕ, zero, suc, ◌+◌, ◌*◌, ◌/◌, ◌<◌, ◌≤◌, List, [], ◌∷◌, ◌++◌, length, sym, refl, ap, ◌∙◌, append_assoc, append-nil, div-lt_iff_lt-mul, mul-zero, le-div_iff_mul-le, add-one, arith}
 use Rattle.records.specs.Copies.{copies}
 
 pub no_symbols : (n l : ℕ) → l ≡ 0 → n * l ≤ 16777216
@@ -20,14 +20,9 @@ module _ {A : Type 0} where
   empty n [] h = sym (of_nothing n)
   empty n (x ∷ xs) h = absurd (omega arith)
 
-  one_more : (n : ℕ) (xs : List A) → 0 < n → copies n xs ≡ xs ++ copies (n - 1) xs
-  one_more zero xs h = absurd (omega arith)
-  one_more (suc n) xs h = rw sub-one refl
+  behind : (n : ℕ) (xs : List A) → copies n xs ++ xs ≡ copies (suc n) xs
+  behind zero xs = sym (append-nil xs)
+  behind (suc n) xs = append_assoc xs (copies n xs) xs ∙ ap (λ l. xs ++ l) (behind n xs)
 
-  pub more : (made again xs : List A) (n : ℕ) → 0 < n → again ≡ made ++ xs → again ++ copies (n - 1) xs ≡ made ++ copies n xs
-  more made again xs n h e =
-      ap (λ l. l ++ copies (n - 1) xs) e ∙ append_assoc made xs (copies (n - 1) xs) ∙ sym (ap (λ l. made ++ l) (one_more n xs h))
-
-  pub done : (made xs : List A) (n : ℕ) → n ≤ 0 → made ++ copies n xs ≡ made
-  done made xs zero h = append-nil made
-  done made xs (suc n) h = absurd (omega arith)
+  pub more : (made again xs : List A) (n : ℕ) → made ≡ copies n xs → again ≡ made ++ xs → again ≡ copies (n + 1) xs
+  more made again xs n so_far e = rw add-one (e ∙ ap (λ l. l ++ xs) so_far ∙ behind n xs)

@@ -1,5 +1,6 @@
 -- Event records as CSV.
 use Rattle.std.specs.Prelude.{◌≡◌, ℕ, ◌+◌, Bool, true, false, cond, not, ◌&&◌, List, [], ◌∷◌, ◌++◌, length, Some, None, Ok, Err, Option, Result, nat_le, nat_lt}
+use Rattle.std.specs.Char.{is_ascii_digit}
 use Rattle.symbols.specs.declared.Event.{Event}
 use Rattle.script.specs.Words.{up_to, past, trimmed}
 use Rattle.script.specs.Numbers.{number_of}
@@ -8,7 +9,7 @@ use Rattle.records.specs.Pieces.{pieces}
 use Rattle.records.specs.declared.csv.Field.{Field}
 use Rattle.records.specs.declared.csv.Fault.{Fault}
 use Rattle.records.specs.declared.csv.Row.{Row}
-use Rattle.records.specs.declared.csv.Row.TheVariants.{Blank as BlankR, Header as HeaderR, Event as EventR, Bad as BadR}
+use Rattle.records.specs.declared.csv.Row.TheVariants.{Blank as BlankR, Header as HeaderR, Event as EventR}
 use Rattle.records.specs.declared.csv.BadLine.{BadLine}
 
 abbrev pub number_up_to : Field → ℕ → Option ℕ → Result ℕ Fault
@@ -40,62 +41,57 @@ event_row line =
     event_by (field_of Field.Moment 4294967295 (up_to 44 line)) (field_of Field.Kind 255 (up_to 44 (past 44 line)))
     (field_of Field.Value 65535 (up_to 44 (past 44 (past 44 line)))) (another (past 44 (past 44 line)))
 
-abbrev pub digit : ℕ → Bool
-digit b = nat_le 48 b && nat_le b 57
-
 abbrev pub begins : List ℕ → Bool
 begins [] = false
-begins (x ∷ xs) = not (digit x)
+begins (x ∷ xs) = not (is_ascii_digit x)
 
 -- the first field begins with something else than a digit
 abbrev pub header : List ℕ → Bool
 header line = begins (stripped (up_to 44 line))
 
-abbrev pub row_by : Result Event Fault → Row
-row_by (Ok e) = Row.Event e
-row_by (Err f) = Row.Bad f
+abbrev pub row_by : Result Event Fault → Result Row Fault
+row_by (Ok e) = Ok (Row.Event e)
+row_by (Err f) = Err f
 
-abbrev pub row_if : List ℕ → Bool → List ℕ → Row
-row_if [] first line = Row.Blank
-row_if (x ∷ xs) first line = cond (first && header line) Row.Header (row_by (event_row line))
+abbrev pub row_if : List ℕ → Bool → List ℕ → Result Row Fault
+row_if [] first line = Ok Row.Blank
+row_if (x ∷ xs) first line = cond (first && header line) (Ok Row.Header) (row_by (event_row line))
 
 -- what a line has; it may be a header if no line before it has anything
-abbrev pub row_of : Bool → List ℕ → Row
+abbrev pub row_of : Bool → List ℕ → Result Row Fault
 row_of first line = row_if (trimmed line) first line
 
 -- a header may still come behind blank lines
-abbrev pub still_first : Bool → Row → Bool
-still_first first BlankR = first
-still_first first HeaderR = false
-still_first first (EventR e) = false
-still_first first (BadR f) = false
+abbrev pub still_first : Bool → Result Row Fault → Bool
+still_first first (Ok BlankR) = first
+still_first first (Ok HeaderR) = false
+still_first first (Ok (EventR e)) = false
+still_first first (Err f) = false
 
-abbrev pub rows_of : Bool → List (List ℕ) → List Row
+abbrev pub rows_of : Bool → List (List ℕ) → List (Result Row Fault)
 rows_of first [] = []
 rows_of first (l ∷ ls) = row_of first l ∷ rows_of (still_first first (row_of first l)) ls
 
-abbrev pub good_in : Row → List Event
-good_in (EventR e) = e ∷ []
-good_in (BadR f) = []
-good_in BlankR = []
-good_in HeaderR = []
+abbrev pub good_in : Result Row Fault → List Event
+good_in (Ok (EventR e)) = e ∷ []
+good_in (Ok BlankR) = []
+good_in (Ok HeaderR) = []
+good_in (Err f) = []
 
-abbrev pub bad_in : ℕ → Row → List BadLine
-bad_in n (BadR f) = record { number = n; fault = f } ∷ []
-bad_in n (EventR e) = []
-bad_in n BlankR = []
-bad_in n HeaderR = []
+abbrev pub bad_in : ℕ → Result Row Fault → List BadLine
+bad_in n (Err f) = record { number = n; fault = f } ∷ []
+bad_in n (Ok r) = []
 
 -- the events of the rows, in order
-abbrev pub good_rows : List Row → List Event
+abbrev pub good_rows : List (Result Row Fault) → List Event
 good_rows [] = []
 good_rows (r ∷ rs) = good_in r ++ good_rows rs
 
 -- the bad ones, in order, each with its number; the first has the number n
-abbrev pub bad_rows : ℕ → List Row → List BadLine
+abbrev pub bad_rows : ℕ → List (Result Row Fault) → List BadLine
 bad_rows n [] = []
 bad_rows n (r ∷ rs) = bad_in n r ++ bad_rows (n + 1) rs
 
 -- the rows of a text, whose lines end at byte 10
-abbrev pub text_rows : List ℕ → List Row
+abbrev pub text_rows : List ℕ → List (Result Row Fault)
 text_rows text = rows_of true (pieces 10 text)

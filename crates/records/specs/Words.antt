@@ -1,6 +1,7 @@
 -- Events in one text, with spaces between.
-use Rattle.std.specs.Prelude.{◌≡◌, ℕ, ◌+◌, Bool, true, false, cond, List, [], ◌∷◌, Some, None, Ok, Err, Option, Result}
-use Rattle.std.specs.declared.alloc.AllocError.{AllocError}
+use Rattle.std.specs.Prelude.{◌≡◌, ℕ, ◌+◌, List, [], ◌∷◌, Some, None, Ok, Err, Option, Result}
+use Rattle.records.specs.declared.events.EventsError.{EventsError}
+use Rattle.records.specs.declared.events.EventsError.TheVariants.{NotAnEvent, NoMemory}
 use Rattle.symbols.specs.declared.Event.{Event}
 use Rattle.script.specs.Symbols.{event_of}
 use Rattle.records.specs.Blanks.{stripped}
@@ -30,7 +31,7 @@ abbrev pub events_of : List ℕ → Result (List Event) ℕ
 events_of text = events_from 1 (words_of (pieces 32 text))
 
 -- the events that were read are those of the text, or none if it has something else; without memory nothing is said
-abbrev pub EventsRead : List ℕ → List Event → Result (Option ℕ) AllocError → Type 0
-EventsRead text es (Ok None) = events_of text ≡ Ok es
-EventsRead text es (Ok (Some k)) = (events_of text ≡ Err k) × (es ≡ [])
-EventsRead text es (Err e) = Unit {0}
+abbrev pub EventsRead : List ℕ → List Event → Result (Unit {0}) EventsError → Type 0
+EventsRead text es (Ok _) = events_of text ≡ Ok es
+EventsRead text es (Err (NotAnEvent k)) = (events_of text ≡ Err k) × (es ≡ [])
+EventsRead text es (Err NoMemory) = Unit {0}

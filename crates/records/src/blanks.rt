@@ -8,12 +8,10 @@ use script::words::{is_blank, trimmed};
 fn fronted(text: &[u8]) -> &[u8]
     ensures { result.now ≡ fronted_text text.now }
 {
-    for i in 0..text.len() {
-        if !is_blank(text[i]) {
-            return &text[i..];
-        }
+    match text.iter().position(|b| !is_blank(*b)) {
+        Some(at) => &text[at..],
+        None => &[],
     }
-    &text[text.len()..]
 }
 
 pub(crate) fn stripped(text: &[u8]) -> &[u8]

@@ -1,6 +1,6 @@
 // Event records as CSV: one event a line, as moment, kind and value.
 ghost use Rattle.std.specs.Prelude.{◌≡◌, ◌≤◌, ◌++◌, IfOk, OnOk};
-ghost use Rattle.records.specs.Rows.{field_of, event_row, digit, header, row_of, still_first, good_in, bad_in, good_rows, bad_rows, text_rows};
+ghost use Rattle.records.specs.Rows.{field_of, event_row, header, row_of, still_first, good_in, bad_in, good_rows, bad_rows, text_rows};
 
 use crate::blanks::stripped;
 use script::number::number;
@@ -8,7 +8,7 @@ use script::words::{before, behind, trimmed};
 use std::alloc::AllocError;
 use symbols::Event;
 
-#[derive(Clone, Copy)]
+#[derive(Clone, Copy, Debug, PartialEq, Eq)]
 pub enum Field {
     Moment,
     Kind,
@@ -16,7 +16,7 @@ pub enum Field {
 }
 
 // What is wrong with a line.
-#[derive(Clone, Copy)]
+#[derive(Clone, Copy, Debug, PartialEq, Eq)]
 pub enum Fault {
     Missing(Field),
     NotANumber(Field),
@@ -25,16 +25,15 @@ pub enum Fault {
     Surplus,
 }
 
-#[derive(Clone, Copy)]
+#[derive(Clone, Copy, Debug, PartialEq, Eq)]
 pub enum Row {
     Blank,
     Header,
     Event(Event),
-    Bad(Fault),
 }
 
 // Lines are counted from 1.
-#[derive(Clone, Copy)]
+#[derive(Clone, Copy, Debug, PartialEq, Eq)]
 pub struct BadLine {
     pub number: usize,
     pub fault: Fault,
@@ -45,7 +44,7 @@ fn parse_field(text: &[u8], field: Field, most: u64) -> Result<u64, Fault>
     ensures bound { IfOk result (λ n. n ≤ most) }
 {
     let text = stripped(text);
-    if text.len() == 0 {
+    if text.is_empty() {
         return Err(Fault::Missing(field));
     }
     match number(text) {
@@ -74,48 +73,35 @@ pub fn parse_row(line: &[u8]) -> Result<Event, Fault>
     })
 }
 
-fn is_digit(byte: u8) -> bool
-    ensures { result ≡ digit byte }
-{
-    b'0' <= byte && byte <= b'9'
-}
-
 // A header's first field begins with something else than a digit.
 fn is_header(line: &[u8]) -> bool
     ensures { result ≡ header line.now }
 {
-    let field = stripped(before(line, b','));
-    field.len() > 0 && !is_digit(field[0])
+    matches!(stripped(before(line, b',')), [first, ..] if !first.is_ascii_digit())
 }
 
 // What a line has; `first` says that all lines before it are blank, so that it may be a header.
-pub fn row_of(line: &[u8], first: bool) -> Row
+pub fn row_of(line: &[u8], first: bool) -> Result<Row, Fault>
     ensures { result ≡ row_of first line.now }
 {
-    if trimmed(line).len() == 0 {
-        return Row::Blank;
+    if trimmed(line).is_empty() {
+        return Ok(Row::Blank);
     }
     if first && is_header(line) {
-        return Row::Header;
+        return Ok(Row::Header);
     }
-    match parse_row(line) {
-        Ok(event) => Row::Event(event),
-        Err(fault) => Row::Bad(fault),
-    }
+    Ok(Row::Event(parse_row(line)?))
 }
 
-fn still_first(first: bool, row: Row) -> bool
+fn still_first(first: bool, row: Result<Row, Fault>) -> bool
     ensures { result ≡ still_first first row }
 {
-    match row {
-        Row::Blank => first,
-        _ => false,
-    }
+    first && matches!(row, Ok(Row::Blank))
 }
 
 // Puts what the row has behind what is there already.
 fn keep(
-    row: Row,
+    row: Result<Row, Fault>,
     number: usize,
     out: &mut Vec<Event>,
     bad: &mut Vec<BadLine>,
@@ -124,9 +110,9 @@ fn keep(
     ensures bad { OnOk result (bad.new.items ≡ bad.old.items ++ bad_in number row) }
 {
     match row {
-        Row::Event(event) => out.push(event)?,
-        Row::Bad(fault) => bad.push(BadLine { number, fault })?,
-        Row::Blank | Row::Header => {}
+        Ok(Row::Event(event)) => out.push(event)?,
+        Ok(Row::Blank | Row::Header) => {}
+        Err(fault) => bad.push(BadLine { number, fault })?,
     }
     Ok(())
 }
@@ -145,7 +131,7 @@ pub fn read_events(
     let mut rest = text;
     let mut first = true;
     let mut number = 0;
-    while rest.len() > 0 {
+    while !rest.is_empty() {
         let row = row_of(before(rest, b'\n'), first);
         number += 1;
         keep(row, number, out, bad)?;

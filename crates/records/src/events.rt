@@ -1,32 +1,48 @@
 // Events in one text, as KIND:VALUE@MOMENT with spaces between.
+ghost use Rattle.std.specs.Prelude.{◌≡◌};
 ghost use Rattle.records.specs.Words.{EventsRead};
+ghost use Rattle.records.specs.declared.events.EventsError.TheVariants.{NoMemory};
 
 use crate::blanks::stripped;
 use script::symbol::parse_event;
 use script::words::{before, behind};
-use std::alloc::AllocError;
+use std::alloc::AllocFailed;
 use symbols::Event;
 
-// Puts the events in the place of what `out` held. Where a word is not an event it says
-// which one, counted from 1, and `out` stays empty.
-pub fn parse_events(text: &[u8], out: &mut Vec<Event>) -> Result<Option<usize>, AllocError>
+#[derive(Clone, Copy, Debug, PartialEq, Eq)]
+pub enum EventsError {
+    // The word of that number, counted from 1, is not an event.
+    NotAnEvent(usize),
+    NoMemory,
+}
+
+impl<T: Drop> From<AllocFailed<T>> for EventsError {
+    ghost from_gives = { λ _ r. r ≡ NoMemory };
+
+    fn from(_failed: AllocFailed<T>) -> EventsError {
+        EventsError::NoMemory
+    }
+}
+
+// Puts the events in the place of what `out` held; nothing where a word is not an event.
+pub fn parse_events(text: &[u8], out: &mut Vec<Event>) -> Result<(), EventsError>
     ensures { EventsRead text.now out.new.items result }
 {
     out.clear();
     let mut rest = text;
     let mut number = 0;
-    while rest.len() > 0 {
+    while !rest.is_empty() {
         let word = stripped(before(rest, b' '));
         rest = behind(rest, b' ');
-        if word.len() == 0 {
+        if word.is_empty() {
             continue;
         }
         number += 1;
         let Some(event) = parse_event(word) else {
             out.clear();
-            return Ok(Some(number));
+            return Err(EventsError::NotAnEvent(number));
         };
         out.push(event)?;
     }
-    Ok(None)
+    Ok(())
 }

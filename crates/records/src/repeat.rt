@@ -1,5 +1,7 @@
 // Copies of a piece, one after the other.
+ghost use Rattle.std.specs.Prelude.{◌≡◌};
 ghost use Rattle.records.specs.Copies.{Repeated};
+ghost use Rattle.records.specs.declared.repeat.RepeatError.TheVariants.{NoMemory};
 
 use std::alloc::AllocError;
 
@@ -7,22 +9,34 @@ use std::alloc::AllocError;
 // refuses much shorter ones.
 pub const MOST_SYMBOLS: usize = 16_777_216;
 
-// Puts `count` copies of the piece in the place of what `out` held; false, and nothing in `out`,
-// where these are more than `MOST_SYMBOLS`.
-pub fn repeat<T: Copy>(piece: &[T], count: u64, out: &mut Vec<T>) -> Result<bool, AllocError>
+#[derive(Clone, Copy, Debug, PartialEq, Eq)]
+pub enum RepeatError {
+    // The copies are more than `MOST_SYMBOLS`.
+    TooLong,
+    NoMemory,
+}
+
+impl From<AllocError> for RepeatError {
+    ghost from_gives = { λ _ r. r ≡ NoMemory };
+
+    fn from(_error: AllocError) -> RepeatError {
+        RepeatError::NoMemory
+    }
+}
+
+// Puts `count` copies of the piece in the place of what `out` held; nothing where they are too many.
+pub fn repeat<T: Copy>(piece: &[T], count: u64, out: &mut Vec<T>) -> Result<(), RepeatError>
     ensures { Repeated piece.now count out.new.items result }
 {
     out.clear();
-    if piece.len() == 0 {
-        return Ok(true);
+    if piece.is_empty() {
+        return Ok(());
     }
     if count > (MOST_SYMBOLS / piece.len()) as u64 {
-        return Ok(false);
+        return Err(RepeatError::TooLong);
     }
-    let mut left = count;
-    while left > 0 {
+    for _ in 0..count {
         out.extend_from_slice(piece)?;
-        left -= 1;
     }
-    Ok(true)
+    Ok(())
 }

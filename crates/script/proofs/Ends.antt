@@ -1,26 +1,18 @@
--- The end of a text but for blanks.
-use Rattle.std.proofs.Common.{◌≡◌, ℕ, zero, suc, ◌-◌, ◌<◌, ◌≤◌, Bool, true, false, cond, List, length, get_or, take, sym, refl, ap, ◌∙◌, sub-one, arith}
-use native.Mathlib.Nat.{sub-zero}
-use Rattle.std.proofs.lemmas.Bool.{cond-true, cond-false}
-use Rattle.script.specs.Words.{blank, ends, trimmed}
+-- Where a text ends but for blanks.
+use Rattle.std.proofs.Common.{◌≡◌, ◌-◌, ℕ, ◌+◌, ◌<◌, true, false, List, [], length, get_or, take, arith}
+use Rattle.std.specs.List.{suffix_len}
+use Rattle.std.proofs.lemmas.List.Sums.{suffix_len_is}
+use Rattle.script.specs.Words.{blank, trimmed}
 
-pub blank_end : (xs : List ℕ) (n : ℕ) → 0 < n → true ≡ blank (get_or xs (n - 1) 0) → ends xs (n - 1) ≡ ends xs n
-blank_end xs zero h e = absurd (omega arith)
-blank_end xs (suc n) h e = rw sub-one (sym (cond-true _ _ _ (sym (rw sub-one at e))))
+module _ (xs : List ℕ) where
+  pub cut : (i : ℕ) → i < length xs → blank (get_or xs i 0) ≡ false → ((k : ℕ) → i < k → k < length xs → blank (get_or xs k 0) ≡ true) → take (i + 1) xs ≡ trimmed xs
+  cut i h here behind =
+      let at : suffix_len blank xs ≡ length xs - (i + 1) = suffix_len_is blank xs (i + 1) 0 (omega arith) (λ k l m. behind k (omega arith) m) (λ l. let e : i + 1 - 1 ≡ i = omega arith in rw e here) in
+      let e : length xs - suffix_len blank xs ≡ i + 1 = omega arith in
+      rw e
 
-other_end : (xs : List ℕ) (n : ℕ) → 0 < n → false ≡ blank (get_or xs (n - 1) 0) → n ≡ ends xs n
-other_end xs zero h e = absurd (omega arith)
-other_end xs (suc n) h e = sym (cond-false _ _ _ (sym (rw sub-one at e)))
-
-pub cut : (xs : List ℕ) (n : ℕ) → n ≡ ends xs n → ends xs n ≡ ends xs (length xs) → take (n - 0) xs ≡ trimmed xs
-cut xs n e h = ap (λ k. take k xs) (sub-zero n ∙ e ∙ h)
-
-pub cut_other : (xs : List ℕ) (n : ℕ) → 0 < n → false ≡ blank (get_or xs (n - 1) 0) → ends xs n ≡ ends xs (length xs) → take (n - 0) xs ≡ trimmed xs
-cut_other xs n h b = cut xs n (other_end xs n h b)
-
-none_left : (xs : List ℕ) (n : ℕ) → n ≤ 0 → n ≡ ends xs n
-none_left xs zero h = refl
-none_left xs (suc n) h = absurd (omega arith)
-
-pub cut_none : (xs : List ℕ) (n : ℕ) → n ≤ 0 → ends xs n ≡ ends xs (length xs) → take (n - 0) xs ≡ trimmed xs
-cut_none xs n h = cut xs n (none_left xs n h)
+  pub cut_all : ((k : ℕ) → k < length xs → blank (get_or xs k 0) ≡ true) → [] ≡ trimmed xs
+  cut_all behind =
+      let at : suffix_len blank xs ≡ length xs - 0 = suffix_len_is blank xs 0 0 (omega arith) (λ k l m. behind k m) (λ l. absurd (omega arith)) in
+      let e : length xs - suffix_len blank xs ≡ 0 = omega arith in
+      rw e

@@ -1,14 +1,14 @@
 -- What a line of a script asks for.
 use Rattle.std.specs.Prelude.{ℕ, Bool, true, false, cond, ◌&&◌, List, [], ◌∷◌, Some, None, Ok, Err, codes, Option, Result, ◌==◌}
 use Rattle.script.specs.Words.{same, up_to, past, trimmed}
-use Rattle.script.specs.Numbers.{number_of}
+use Rattle.script.specs.Arguments.{number_behind, two_behind, end_behind}
 use Rattle.script.specs.declared.command.Kind.{Kind}
 use Rattle.script.specs.declared.command.Form.{Form}
 use Rattle.script.specs.declared.command.Verb.{Verb}
 use Rattle.script.specs.declared.command.Verb.TheVariants.{Pattern as PatternV, Test as TestV, Seal as SealV, Class as ClassV, Passes as PassesV, Positions as PositionsV}
 use Rattle.script.specs.declared.command.Command.{Command}
 use Rattle.script.specs.declared.command.Command.TheVariants.{Pattern as PatternC, Test as TestC, Seal as SealC, Class as ClassC, Passes as PassesC, Positions as PositionsC}
-use Rattle.script.specs.declared.command.Mistake.{Mistake}
+use Rattle.script.specs.declared.mistake.Mistake.{Mistake}
 
 abbrev pub verb_of : List ℕ → Option Verb
 verb_of w =
@@ -56,41 +56,26 @@ pattern_by None text = wrong Mistake.UnknownNotation
 abbrev pub asked_pattern : List ℕ → Asked
 asked_pattern rest = pattern_by (form_of (up_to 32 rest)) (past 32 rest)
 
-abbrev pub test_by : Option ℕ → Asked
-test_by (Some k) = test k
-test_by None = wrong Mistake.BadNumber
+-- a command about an answer, or the mistake
+abbrev pub about : {A : Type 0} → (A → Asked) → Result A Mistake → Asked
+about f (Ok a) = f a
+about f (Err m) = wrong m
 
-abbrev pub asked_test : List ℕ → Asked
-asked_test rest = test_by (number_of (trimmed rest))
+abbrev pub asked_by : Verb → List ℕ → Asked
+asked_by PatternV rest = asked_pattern rest
+asked_by TestV rest = about test (number_behind rest)
+asked_by SealV rest = about (λ _. seal) (end_behind rest)
+asked_by ClassV rest = class (trimmed rest)
+asked_by PassesV rest = about (λ ct. passes ct.0 ct.1) (two_behind rest)
+asked_by PositionsV rest = about (λ _. positions) (end_behind rest)
 
-abbrev pub passes_by : Option ℕ → Option ℕ → Asked
-passes_by None t = wrong Mistake.BadNumber
-passes_by (Some c) None = wrong Mistake.BadNumber
-passes_by (Some c) (Some t) = passes c t
-
-abbrev pub asked_passes : List ℕ → Asked
-asked_passes rest = passes_by (number_of (up_to 32 rest)) (number_of (trimmed (past 32 rest)))
-
--- a command of one word, behind which nothing stands
-abbrev pub bare_by : Asked → List ℕ → Asked
-bare_by a [] = a
-bare_by a (x ∷ xs) = wrong Mistake.Surplus
-
-abbrev pub asked_bare : Asked → List ℕ → Asked
-asked_bare a rest = bare_by a (trimmed rest)
-
-abbrev pub asked_by : Option Verb → List ℕ → Asked
-asked_by (Some PatternV) rest = asked_pattern rest
-asked_by (Some TestV) rest = asked_test rest
-asked_by (Some SealV) rest = asked_bare seal rest
-asked_by (Some ClassV) rest = class (trimmed rest)
-asked_by (Some PassesV) rest = asked_passes rest
-asked_by (Some PositionsV) rest = asked_bare positions rest
-asked_by None rest = wrong Mistake.UnknownCommand
+abbrev pub asked_if : Option Verb → List ℕ → Asked
+asked_if (Some verb) rest = asked_by verb rest
+asked_if None rest = wrong Mistake.UnknownCommand
 
 -- what a line asks for: its first word says which command, and the rest, raw, what it is about
 abbrev pub asked : List ℕ → Asked
-asked line = cond (passed_over line) nothing (asked_by (verb_of (up_to 32 (trimmed line))) (past 32 line))
+asked line = cond (passed_over line) nothing (asked_if (verb_of (up_to 32 (trimmed line))) (past 32 line))
 
 abbrev pub contents : Command → Asked
 contents (PatternC f text) = pattern f text.now

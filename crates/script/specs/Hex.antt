@@ -1,6 +1,7 @@
 -- Bytes that are written with hexadecimal digits, two for each.
 use Rattle.std.specs.Prelude.{◌≡◌, ℕ, ◌+◌, ◌-◌, ◌*◌, Bool, true, false, cond, ◌&&◌, List, [], ◌∷◌, Some, None, Ok, Err, Option, Result, nat_le}
-use Rattle.std.specs.declared.alloc.AllocError.{AllocError}
+use Rattle.script.specs.declared.hex.HexError.{HexError}
+use Rattle.script.specs.declared.hex.HexError.TheVariants.{NotHex, NoMemory}
 
 -- the value of a hexadecimal digit
 abbrev pub hex_of : ℕ → Option ℕ
@@ -26,7 +27,8 @@ bytes_of [] = Some []
 bytes_of (x ∷ []) = None
 bytes_of (x ∷ y ∷ rest) = in_front (pair_of (hex_of x) (hex_of y)) (bytes_of rest)
 
--- the answer says whether the text has bytes, and then these are they; without memory nothing is said
-abbrev pub ReadAs : List ℕ → List ℕ → Result Bool AllocError → Type 0
-ReadAs text bytes (Ok is) = bytes_of text ≡ cond is (Some bytes) None
-ReadAs text bytes (Err e) = Unit {0}
+-- the bytes are those of the text, or it has none; without memory nothing is said
+abbrev pub ReadAs : List ℕ → List ℕ → Result (Unit {0}) HexError → Type 0
+ReadAs text bytes (Ok _) = bytes_of text ≡ Some bytes
+ReadAs text bytes (Err NotHex) = bytes_of text ≡ None
+ReadAs text bytes (Err NoMemory) = Unit {0}

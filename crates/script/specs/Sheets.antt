@@ -3,7 +3,7 @@ use Rattle.std.specs.Prelude.{ℕ, cond, List, Some, None, Ok, Err, codes, Optio
 use Rattle.script.specs.Words.{same, up_to, past}
 use Rattle.script.specs.Commands.{passed_over}
 use Rattle.script.specs.declared.command.Kind.{Kind}
-use Rattle.script.specs.declared.command.Mistake.{Mistake}
+use Rattle.script.specs.declared.mistake.Mistake.{Mistake}
 use Rattle.script.specs.declared.sheet.Entry.{Entry}
 
 abbrev pub kind_of : List ℕ → Option Kind

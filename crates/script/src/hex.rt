@@ -1,47 +1,53 @@
 // Hexadecimal digits.
 ghost use Rattle.std.specs.Prelude.{◌≡◌, ◌<◌, IfSome};
 ghost use Rattle.script.specs.Hex.{hex_of, pair_of, ReadAs};
+ghost use Rattle.script.specs.declared.hex.HexError.TheVariants.{NoMemory};
 
-use std::alloc::AllocError;
+use std::alloc::AllocFailed;
+
+#[derive(Clone, Copy, Debug, PartialEq, Eq)]
+pub enum HexError {
+    // The digits are not pairs, or something else stands among them.
+    NotHex,
+    NoMemory,
+}
+
+impl<T: Drop> From<AllocFailed<T>> for HexError {
+    ghost from_gives = { λ _ r. r ≡ NoMemory };
+
+    fn from(_failed: AllocFailed<T>) -> HexError {
+        HexError::NoMemory
+    }
+}
 
 pub fn hex_value(byte: u8) -> Option<u8>
     ensures is { result ≡ hex_of byte }
     ensures small { IfSome result (λ v. v < 16) }
 {
-    match byte {
-        b'0'..=b'9' => Some(byte - b'0'),
-        b'a'..=b'f' => Some(byte - b'a' + 10),
-        b'A'..=b'F' => Some(byte - b'A' + 10),
-        _ => None,
-    }
+    let digit = char::from(byte).to_digit(16)?;
+    Some(digit as u8)
 }
 
 // The byte that two digits write.
 fn hex_pair(high: u8, low: u8) -> Option<u8>
     ensures { result ≡ pair_of (hex_of high) (hex_of low) }
 {
-    let Some(sixteens) = hex_value(high) else {
-        return None;
-    };
-    match hex_value(low) {
-        Some(ones) => Some(sixteens * 16 + ones),
-        None => None,
-    }
+    Some(hex_value(high)? * 16 + hex_value(low)?)
 }
 
-// Puts the bytes that the pairs of digits write in the place of what `out` held;
-// false where the digits are not pairs or something else stands among them.
-pub fn read_hex(text: &[u8], out: &mut Vec<u8>) -> Result<bool, AllocError>
+// Puts the bytes that the pairs of digits write in the place of what `out` held.
+pub fn read_hex(text: &[u8], out: &mut Vec<u8>) -> Result<(), HexError>
     ensures { ReadAs text.now out.new.items result }
 {
     out.clear();
-    let mut at = 0;
-    while text.len() - at > 1 {
-        let Some(byte) = hex_pair(text[at], text[at + 1]) else {
-            return Ok(false);
-        };
-        out.push(byte)?;
-        at += 2;
+    let mut rest = text;
+    while let [high, low, others @ ..] = rest {
+        out.push(hex_pair(*high, *low).ok_or(HexError::NotHex)?)?;
+        rest = others;
     }
-    Ok(at == text.len())
+    if rest.is_empty() {
+        Ok(())
+    } else {
+        Err(HexError::NotHex)
+    }
 }

@@ -20,15 +20,12 @@ fn add_digit(number: u64, byte: u8) -> Option<u64>
 pub fn number(text: &[u8]) -> Option<u64>
     ensures { result ≡ number_of text.now }
 {
-    if text.len() == 0 {
+    if text.is_empty() {
         return None;
     }
     let mut value = 0;
-    for i in 0..text.len() {
-        match add_digit(value, text[i]) {
-            Some(more) => value = more,
-            None => return None,
-        }
+    for byte in text {
+        value = add_digit(value, *byte)?;
     }
     Some(value)
 }

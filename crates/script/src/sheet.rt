@@ -2,25 +2,25 @@
 ghost use Rattle.std.specs.Prelude.{◌≡◌};
 ghost use Rattle.script.specs.Sheets.{kind_of, entered, told_entry};
 
-use crate::command::{Kind, Mistake, is_passed_over};
-use crate::words::{before, behind, is_word};
+use crate::command::{Kind, is_passed_over};
+use crate::mistake::Mistake;
+use crate::words::{before, behind};
 
-#[derive(Clone, Copy)]
+#[derive(Clone, Copy, Debug, PartialEq, Eq)]
 pub struct Entry<'a> {
     pub name: &'a [u8],
     pub kind: Kind,
     pub text: &'a [u8],
 }
 
+#[tactic(auto, using(crate::proofs::Same::same_is))]
 fn kind_of(word: &[u8]) -> Option<Kind>
     ensures { result ≡ kind_of word.now }
 {
-    if is_word(word, b"bytes") {
-        Some(Kind::Bytes)
-    } else if is_word(word, b"events") {
-        Some(Kind::Events)
-    } else {
-        None
+    match word {
+        b"bytes" => Some(Kind::Bytes),
+        b"events" => Some(Kind::Events),
+        _ => None,
     }
 }
 
@@ -32,12 +32,10 @@ pub fn parse_entry(line: &[u8]) -> Result<Option<Entry<'_>>, Mistake>
         return Ok(None);
     }
     let rest = behind(line, b' ');
-    match kind_of(before(rest, b' ')) {
-        Some(kind) => Ok(Some(Entry {
-            name: before(line, b' '),
-            kind,
-            text: behind(rest, b' '),
-        })),
-        None => Err(Mistake::UnknownNotation),
-    }
+    let kind = kind_of(before(rest, b' ')).ok_or(Mistake::UnknownNotation)?;
+    Ok(Some(Entry {
+        name: before(line, b' '),
+        kind,
+        text: behind(rest, b' '),
+    }))
 }

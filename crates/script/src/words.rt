@@ -1,36 +1,29 @@
 // The words of a line, which stand between spaces.
 ghost use Rattle.std.specs.Prelude.{◌≡◌, ◌≤◌, length};
-ghost use Rattle.script.specs.Words.{up_to, past, blank, same, ends, trimmed as trimmed_text};
+ghost use Rattle.script.specs.Words.{up_to, past, blank, trimmed as trimmed_text};
 
 // How many bytes stand before the first that is `byte`, or all of them.
 pub fn index_of(text: &[u8], byte: u8) -> usize
     ensures is { result ≡ length (up_to byte text.now) }
     ensures within { result ≤ length text.now }
 {
-    for i in 0..text.len() {
-        if text[i] == byte {
-            return i;
-        }
-    }
-    text.len()
+    text.iter().position(|b| *b == byte).unwrap_or(text.len())
 }
 
 // What stands before the first `byte`, or everything.
 pub fn before(text: &[u8], byte: u8) -> &[u8]
     ensures { result.now ≡ up_to byte text.now }
 {
-    &text[0..index_of(text, byte)]
+    &text[..index_of(text, byte)]
 }
 
 // What stands behind the first `byte`; nothing where there is none.
 pub fn behind(text: &[u8], byte: u8) -> &[u8]
     ensures { result.now ≡ past byte text.now }
 {
-    let at = index_of(text, byte);
-    if at < text.len() {
-        &text[at + 1..]
-    } else {
-        &text[at..]
+    match text.iter().position(|b| *b == byte) {
+        Some(at) => &text[at + 1..],
+        None => &[],
     }
 }
 
@@ -38,30 +31,15 @@ pub fn behind(text: &[u8], byte: u8) -> &[u8]
 pub fn is_blank(byte: u8) -> bool
     ensures { result ≡ blank byte }
 {
-    byte == b' ' || byte == b'\t' || byte == b'\r'
-}
-
-pub fn is_word(text: &[u8], word: &[u8]) -> bool
-    ensures { result ≡ same text.now word.now }
-{
-    if text.len() != word.len() {
-        return false;
-    }
-    for i in 0..text.len() {
-        if text[i] != word[i] {
-            return false;
-        }
-    }
-    true
+    matches!(byte, b' ' | b'\t' | b'\r')
 }
 
 // The text without the blanks at its end.
 pub fn trimmed(text: &[u8]) -> &[u8]
     ensures { result.now ≡ trimmed_text text.now }
 {
-    let mut end = text.len();
-    while end > 0 && is_blank(text[end - 1]) {
-        end -= 1;
+    match text.iter().rposition(|b| !is_blank(*b)) {
+        Some(last) => &text[..=last],
+        None => &[],
     }
-    &text[0..end]
 }

@@ -1,11 +1,10 @@
 -- What a line of a script that searches asks for.
 use Rattle.std.specs.Prelude.{ℕ, List, [], ◌∷◌, Some, None, Ok, Err, Option, Result}
 use Rattle.script.specs.Words.{up_to, past, trimmed}
-use Rattle.script.specs.Numbers.{number_of}
+use Rattle.script.specs.Arguments.{number_behind, two_behind, end_behind}
 use Rattle.script.specs.Commands as plain
 use Rattle.script.specs.declared.command.Form.{Form}
-use Rattle.script.specs.declared.command.Mistake.{Mistake as PlainMistake}
-use Rattle.script.specs.declared.command.Mistake.TheVariants as plain_mistake
+use Rattle.search_script.specs.Mistakes.{lifted}
 use Rattle.search_script.specs.Verbs.{verb_of}
 use Rattle.search_script.specs.Openings.{opening}
 use Rattle.search_script.specs.Sources.{Made, made, source_of}
@@ -13,7 +12,7 @@ use Rattle.search_script.specs.declared.command.Opening.{Opening}
 use Rattle.search_script.specs.declared.verb.Verb.{Verb}
 use Rattle.search_script.specs.declared.verb.Verb.TheVariants.{Open as OpenV, Record as RecordV, Find as FindV, List as ListV, Whole as WholeV, Limit as LimitV, Clear as ClearV, Memory as MemoryV}
 use Rattle.search_script.specs.declared.command.Command.{Command}
-use Rattle.search_script.specs.declared.command.Command.TheVariants.{Pattern as PatternC, Test as TestC, Seal as SealC, Class as ClassC, Passes as PassesC, Positions as PositionsC, Open as OpenC, Record as RecordC, Find as FindC, List as ListC, Whole as WholeC, Limit as LimitC, Clear as ClearC, Memory as MemoryC}
+use Rattle.search_script.specs.declared.command.Command.TheVariants.{Plain as PlainC, Open as OpenC, Record as RecordC, Find as FindC, List as ListC, Whole as WholeC, Limit as LimitC, Clear as ClearC, Memory as MemoryC}
 use Rattle.search_script.specs.declared.command.Mistake.{Mistake}
 
 -- a command by its contents
@@ -35,49 +34,20 @@ pub data Asked : Type 0 where
   memory : Asked
   wrong : Mistake → Asked
 
-abbrev pub number_or : Option ℕ → Result ℕ Mistake
-number_or (Some n) = Ok n
-number_or None = Err Mistake.BadNumber
-
-abbrev pub number_behind : List ℕ → Result ℕ Mistake
-number_behind rest = number_or (number_of (trimmed rest))
-
-abbrev pub two_or : Option ℕ → Option ℕ → Result (ℕ × ℕ) Mistake
-two_or None n = Err Mistake.BadNumber
-two_or (Some m) None = Err Mistake.BadNumber
-two_or (Some m) (Some n) = Ok (m, n)
-
-abbrev pub two_behind : List ℕ → Result (ℕ × ℕ) Mistake
-two_behind rest = two_or (number_of (up_to 32 rest)) (number_of (trimmed (past 32 rest)))
-
 -- a command about an answer, or the mistake
 abbrev pub about : {A : Type 0} → (A → Asked) → Result A Mistake → Asked
 about f (Ok a) = f a
 about f (Err m) = wrong m
 
--- a command of one word, behind which nothing stands
-abbrev pub bare_by : Asked → List ℕ → Asked
-bare_by a [] = a
-bare_by a (x ∷ xs) = wrong Mistake.Surplus
-
-abbrev pub asked_bare : Asked → List ℕ → Asked
-asked_bare a rest = bare_by a (trimmed rest)
-
 abbrev pub asked_by : Verb → List ℕ → Asked
 asked_by OpenV rest = about opened (opening rest)
 asked_by (RecordV manner) rest = about recorded (source_of manner rest)
-asked_by FindV rest = about find (number_behind rest)
-asked_by ListV rest = about (λ mn. list mn.0 mn.1) (two_behind rest)
-asked_by WholeV rest = asked_bare whole rest
-asked_by LimitV rest = about limit (number_behind rest)
-asked_by ClearV rest = asked_bare clear rest
-asked_by MemoryV rest = asked_bare memory rest
-
-abbrev pub mistake_of : PlainMistake → Mistake
-mistake_of plain_mistake.UnknownCommand = Mistake.UnknownCommand
-mistake_of plain_mistake.UnknownNotation = Mistake.UnknownNotation
-mistake_of plain_mistake.BadNumber = Mistake.BadNumber
-mistake_of plain_mistake.Surplus = Mistake.Surplus
+asked_by FindV rest = about find (lifted (number_behind rest))
+asked_by ListV rest = about (λ mn. list mn.0 mn.1) (lifted (two_behind rest))
+asked_by WholeV rest = about (λ _. whole) (lifted (end_behind rest))
+asked_by LimitV rest = about limit (lifted (number_behind rest))
+asked_by ClearV rest = about (λ _. clear) (lifted (end_behind rest))
+asked_by MemoryV rest = about (λ _. memory) (lifted (end_behind rest))
 
 -- what a line asks for that does not search
 abbrev pub plainly : plain.Asked → Asked
@@ -88,7 +58,7 @@ plainly plain.seal = seal
 plainly (plain.class symbol) = class symbol
 plainly (plain.passes c t) = passes c t
 plainly plain.positions = positions
-plainly (plain.wrong m) = wrong (mistake_of m)
+plainly (plain.wrong m) = wrong (Mistake.Plain m)
 
 abbrev pub asked_if : Option Verb → List ℕ → Asked
 asked_if (Some verb) line = asked_by verb (past 32 line)
@@ -99,12 +69,7 @@ abbrev pub asked : List ℕ → Asked
 asked line = asked_if (verb_of (up_to 32 (trimmed line))) line
 
 abbrev pub contents : Command → Asked
-contents (PatternC f text) = pattern f text.now
-contents (TestC k) = test k
-contents SealC = seal
-contents (ClassC text) = class text.now
-contents (PassesC c t) = passes c t
-contents PositionsC = positions
+contents (PlainC c) = plainly (plain.contents c)
 contents (OpenC o) = opened o
 contents (RecordC s) = recorded (made s)
 contents (FindC from) = find from

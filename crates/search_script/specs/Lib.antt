@@ -1,4 +1,5 @@
 pub mod Commands
+pub mod Mistakes
 pub mod Openings
 pub mod Sources
 pub mod Verbs

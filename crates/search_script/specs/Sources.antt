@@ -1,7 +1,8 @@
 -- What a record is made of.
 use Rattle.std.specs.Prelude.{ℕ, List, [], ◌∷◌, Some, None, Ok, Err, Option, Result}
-use Rattle.script.specs.Words.{up_to, past, trimmed}
-use Rattle.script.specs.Numbers.{number_of}
+use Rattle.script.specs.Words.{past, trimmed}
+use Rattle.script.specs.Arguments.{count_before}
+use Rattle.search_script.specs.Mistakes.{lifted}
 use Rattle.search_script.specs.declared.verb.Manner.{Manner}
 use Rattle.search_script.specs.declared.verb.Manner.TheVariants.{Text as TextM, Hex as HexM, HexRepeat as HexRepeatM, File as FileM, Events as EventsM, EventsRepeat as EventsRepeatM, EventsFile as EventsFileM}
 use Rattle.search_script.specs.declared.command.Source.{Source}
@@ -18,14 +19,6 @@ pub data Made : Type 0 where
   events_repeat : ℕ → List ℕ → Made
   events_file : List ℕ → Made
 
-abbrev pub counted : Option ℕ → Result ℕ Mistake
-counted (Some n) = Ok n
-counted None = Err Mistake.BadNumber
-
--- the first word as a number
-abbrev pub count_of : List ℕ → Result ℕ Mistake
-count_of rest = counted (number_of (up_to 32 rest))
-
 abbrev pub path_of : List ℕ → Result (List ℕ) Mistake
 path_of [] = Err Mistake.NoPath
 path_of (x ∷ xs) = Ok (x ∷ xs)
@@ -38,10 +31,10 @@ of f (Err m) = Err m
 abbrev pub source_by : Manner → List ℕ → List ℕ → Result Made Mistake
 source_by TextM raw rest = Ok (text raw)
 source_by HexM raw rest = Ok (hex rest)
-source_by HexRepeatM raw rest = of (λ n. hex_repeat n (past 32 rest)) (count_of rest)
+source_by HexRepeatM raw rest = of (λ n. hex_repeat n (past 32 rest)) (lifted (count_before rest))
 source_by FileM raw rest = of file (path_of rest)
 source_by EventsM raw rest = Ok (events rest)
-source_by EventsRepeatM raw rest = of (λ n. events_repeat n (past 32 rest)) (count_of rest)
+source_by EventsRepeatM raw rest = of (λ n. events_repeat n (past 32 rest)) (lifted (count_before rest))
 source_by EventsFileM raw rest = of events_file (path_of rest)
 
 -- only a raw text keeps the blanks at its end

@@ -1,21 +1,11 @@
 // What a record is made of.
 ghost use Rattle.std.specs.Prelude.{◌≡◌};
-ghost use Rattle.search_script.specs.Sources.{count_of, source_of, told_source};
+ghost use Rattle.search_script.specs.Sources.{source_of, told_source};
 
 use crate::command::{Mistake, Source};
 use crate::verb::Manner;
-use script::number::number;
-use script::words::{before, behind, trimmed};
-
-// The first word as a number.
-fn parse_count(rest: &[u8]) -> Result<u64, Mistake>
-    ensures { result ≡ count_of rest.now }
-{
-    match number(before(rest, b' ')) {
-        Some(count) => Ok(count),
-        None => Err(Mistake::BadNumber),
-    }
-}
+use script::arguments::parse_count;
+use script::words::{behind, trimmed};
 
 // Only a raw text keeps the blanks at its end.
 pub(crate) fn parse_source(manner: Manner, raw: &[u8]) -> Result<Source<'_>, Mistake>
@@ -26,7 +16,7 @@ pub(crate) fn parse_source(manner: Manner, raw: &[u8]) -> Result<Source<'_>, Mis
         Manner::Text => Ok(Source::Text(raw)),
         Manner::Hex => Ok(Source::Hex(rest)),
         Manner::HexRepeat => Ok(Source::HexRepeat(parse_count(rest)?, behind(rest, b' '))),
-        Manner::File | Manner::EventsFile if rest.len() == 0 => Err(Mistake::NoPath),
+        Manner::File | Manner::EventsFile if rest.is_empty() => Err(Mistake::NoPath),
         Manner::File => Ok(Source::File(rest)),
         Manner::Events => Ok(Source::Events(rest)),
         Manner::EventsRepeat => Ok(Source::EventsRepeat(parse_count(rest)?, behind(rest, b' '))),

@@ -2,10 +2,8 @@
 ghost use Rattle.std.specs.Prelude.{◌≡◌};
 ghost use Rattle.search_script.specs.Verbs.{manner_of, search_verb_of, verb_of};
 
-use script::words::is_word;
-
 // How a record is given.
-#[derive(Clone, Copy)]
+#[derive(Clone, Copy, Debug, PartialEq, Eq)]
 pub(crate) enum Manner {
     Text,
     Hex,
@@ -16,7 +14,7 @@ pub(crate) enum Manner {
     EventsFile,
 }
 
-#[derive(Clone, Copy)]
+#[derive(Clone, Copy, Debug, PartialEq, Eq)]
 pub(crate) enum Verb {
     Open,
     Record(Manner),
@@ -28,47 +26,35 @@ pub(crate) enum Verb {
     Memory,
 }
 
+#[tactic(auto, using(script::proofs::Same::same_is))]
 fn manner_of(word: &[u8]) -> Option<Manner>
     ensures { result ≡ manner_of word.now }
 {
-    if is_word(word, b"record") {
-        Some(Manner::Text)
-    } else if is_word(word, b"record-hex") {
-        Some(Manner::Hex)
-    } else if is_word(word, b"record-repeat") {
-        Some(Manner::HexRepeat)
-    } else if is_word(word, b"record-file") {
-        Some(Manner::File)
-    } else if is_word(word, b"events") {
-        Some(Manner::Events)
-    } else if is_word(word, b"events-repeat") {
-        Some(Manner::EventsRepeat)
-    } else if is_word(word, b"events-file") {
-        Some(Manner::EventsFile)
-    } else {
-        None
+    match word {
+        b"record" => Some(Manner::Text),
+        b"record-hex" => Some(Manner::Hex),
+        b"record-repeat" => Some(Manner::HexRepeat),
+        b"record-file" => Some(Manner::File),
+        b"events" => Some(Manner::Events),
+        b"events-repeat" => Some(Manner::EventsRepeat),
+        b"events-file" => Some(Manner::EventsFile),
+        _ => None,
     }
 }
 
+#[tactic(auto, using(script::proofs::Same::same_is))]
 fn search_verb_of(word: &[u8]) -> Option<Verb>
     ensures { result ≡ search_verb_of word.now }
 {
-    if is_word(word, b"open") {
-        Some(Verb::Open)
-    } else if is_word(word, b"find") {
-        Some(Verb::Find)
-    } else if is_word(word, b"list") {
-        Some(Verb::List)
-    } else if is_word(word, b"whole") {
-        Some(Verb::Whole)
-    } else if is_word(word, b"limit") {
-        Some(Verb::Limit)
-    } else if is_word(word, b"clear") {
-        Some(Verb::Clear)
-    } else if is_word(word, b"memory") {
-        Some(Verb::Memory)
-    } else {
-        None
+    match word {
+        b"open" => Some(Verb::Open),
+        b"find" => Some(Verb::Find),
+        b"list" => Some(Verb::List),
+        b"whole" => Some(Verb::Whole),
+        b"limit" => Some(Verb::Limit),
+        b"clear" => Some(Verb::Clear),
+        b"memory" => Some(Verb::Memory),
+        _ => None,
     }
 }
 

@@ -5,6 +5,7 @@ use crate::lines::{Answers, Out};
 use crate::sealing::Pattern;
 use crate::show;
 use script::command::{Command, Form, Kind};
+use script::hex::HexError;
 use script::{command, hex, words};
 use std::alloc::Global;
 
@@ -35,14 +36,15 @@ impl Session {
         if !form.hex {
             return read_pattern(&mut self.drafts, form.kind, text, out);
         }
-        if !hex::read_hex(words::trimmed(text), &mut self.text)? {
-            return show::wrong_line(
+        match hex::read_hex(words::trimmed(text), &mut self.text) {
+            Ok(()) => read_pattern(&mut self.drafts, form.kind, self.text.as_slice(), out),
+            Err(HexError::NotHex) => show::wrong_line(
                 number,
                 "the text has to be pairs of hexadecimal digits",
                 out,
-            );
+            ),
+            Err(HexError::NoMemory) => Err(Failure::NoMemory),
         }
-        read_pattern(&mut self.drafts, form.kind, self.text.as_slice(), out)
     }
 
     fn test(&self, k: u64, out: &mut Out) -> Result<(), Failure> {
@@ -84,7 +86,7 @@ impl Answers for Session {
                 self.sealed.show_passes(number, class, test, out)
             }
             Ok(Some(Command::Positions)) => self.sealed.show_positions(number, out),
-            Err(mistake) => show::wrong_line(number, show::mistake(mistake), out),
+            Err(mistake) => show::wrong_line(number, mistake, out),
         }
     }
 }

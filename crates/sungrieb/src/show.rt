@@ -4,7 +4,7 @@ use crate::lines::Out;
 use pattern::Code;
 use reader::Draft;
 use refusal::{Cause, Refusal};
-use script::command::Mistake;
+use std::fmt::Display;
 use std::io::Write;
 use symbols::{ByteTest, EventTest};
 
@@ -79,18 +79,9 @@ fn no_test(out: &mut Out) -> Result<(), Failure> {
     Ok(())
 }
 
-pub fn wrong_line(number: u64, words: &str, out: &mut Out) -> Result<(), Failure> {
+pub fn wrong_line<W: Display + Drop>(number: u64, words: W, out: &mut Out) -> Result<(), Failure> {
     writeln!(out, "line {number}: {words}")?;
     Ok(())
-}
-
-pub fn mistake(mistake: Mistake) -> &'static str {
-    match mistake {
-        Mistake::UnknownCommand => "unknown command; sungrieb --help has the commands",
-        Mistake::UnknownNotation => "behind pattern comes bytes, events, bytes-hex or events-hex",
-        Mistake::Surplus => "nothing comes behind this command",
-        Mistake::BadNumber => "a number is missing, or something else stands in its place",
-    }
 }
 
 pub fn yes_or_no(yes: bool) -> &'static str {

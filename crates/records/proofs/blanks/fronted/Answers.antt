@@ -1,12 +1,9 @@
-use Rattle.std.proofs.Common.{arith}
-use Rattle.records.proofs.Fronts.{passed, met, ended}
+use Rattle.std.proofs.Common.{rules}
+use Rattle.records.proofs.Fronts.{cut, cut_all}
 use Rattle.records.proofs.blanks.fronted.Goals as goal
 
-pub returns-then-not-is_blank : goal.returns-then-not-is_blank
-returns-then-not-is_blank c = met c.args.text.now c.loop-i.i _ c.loop-i.invariant (omega arith) c.if-not-is_blank.ensures
+pub returns-in-Some : goal.returns-in-Some
+returns-in-Some c = cut c.args.text.now c.in-Some.at (search rules) (search rules) (search rules)
 
-pub loop-i-preserved : goal.loop-i-preserved
-loop-i-preserved c = passed c.args.text.now c.loop-i.i _ c.loop-i.invariant (omega arith) c.if-not-is_blank.ensures
-
-pub returns : goal.returns
-returns c = ended c.args.text.now c.loop-i.i _ c.loop-i.invariant (omega arith)
+pub returns-in-None : goal.returns-in-None
+returns-in-None c = cut_all c.args.text.now (search rules)

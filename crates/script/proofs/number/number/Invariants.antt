@@ -2,5 +2,5 @@ use Rattle.std.proofs.Common.{◌≡◌, drop}
 use Rattle.script.specs.Numbers.{digits, number_of}
 use Rattle.script.proofs.number.number.Given as goal
 
-abbrev pub invariant-loop-i : goal.invariant-loop-i
-invariant-loop-i l = digits l.value (drop l.i l.text) ≡ number_of l.text
+abbrev pub invariant-loop-byte : goal.invariant-loop-byte
+invariant-loop-byte l = digits l.value (drop l.byte-index l.text) ≡ number_of l.text

@@ -1,8 +1,14 @@
-use Rattle.script.proofs.Cuts.{rest, no_rest}
+use Rattle.std.proofs.Common.{sym, arith, rules}
+use Rattle.std.proofs.lemmas.List.{take_rest, drop_all}
+use Rattle.script.proofs.Cuts.{first_at, first_nowhere}
 use Rattle.script.proofs.words.behind.Goals as goal
 
-pub returns-then-at-text : goal.returns-then-at-text
-returns-then-at-text c = rest c.args.byte c.args.text.now c.index_of-at.result c.index_of-at.ensures.is c.if-at-text.true
+pub returns-in-Some : goal.returns-in-Some
+returns-in-Some c =
+    let at = first_at c.args.byte c.args.text.now c.in-Some.at (search rules) (search rules) (search rules) in
+    rw (take_rest, at)
 
-pub returns-else-at-text : goal.returns-else-at-text
-returns-else-at-text c = no_rest c.args.byte c.args.text.now c.index_of-at.result c.index_of-at.ensures.is c.if-at-text.false
+pub returns-in-None : goal.returns-in-None
+returns-in-None c =
+    let at = first_nowhere c.args.byte c.args.text.now (search rules) in
+    rw at (sym (drop_all _ c.args.text.now (omega arith)))

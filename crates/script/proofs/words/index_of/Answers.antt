@@ -1,13 +1,13 @@
-use Rattle.std.proofs.Common.{arith, rules}
-use Rattle.script.proofs.Cuts.{passed, met, ended}
+use Rattle.std.proofs.Common.{◌∙◌, rules}
+use borrow.Author.Tests.{tests}
+use Rattle.std.specs.Prelude.{◌==◌}
+use Rattle.std.proofs.lemmas.Iterator.{YieldsList-from_slice}
+use Rattle.std.proofs.lemmas.Iterator.Search.{position_from_yields_List}
+use Rattle.script.proofs.Cuts.{first_or_all}
 use Rattle.script.proofs.words.index_of.Goals as goal
 
-pub returns-then-text-i : goal.returns-then-text-i
-returns-then-text-i c =
-    record { is = met c.args.byte c.args.text.now c.loop-i.i _ (omega arith) c.if-text-i.true c.loop-i.invariant; within = omega arith }
-
-pub loop-i-preserved : goal.loop-i-preserved
-loop-i-preserved c = passed c.args.byte c.args.text.now c.loop-i.i _ (omega arith) c.if-text-i.false c.loop-i.invariant
-
-pub returns : goal.returns
-returns c = record { is = ended c.args.byte c.args.text.now c.loop-i.i _ (omega arith) c.loop-i.invariant; within = omega arith }
+pub returns-clause-is : goal.returns-clause-is
+returns-clause-is c =
+    let b = c.args.byte in
+    let e = position_from_yields_List (λ x. x == b) _ _ c.position.result c.position.ensures.ran (YieldsList-from_slice c.args.text.now cc) (λ x r q k. search (rules, tests)) in
+    c.unwrap_or.ensures ∙ first_or_all c.args.byte c.args.text.now c.position.result e
