@@ -4,7 +4,7 @@ use Rattle.std.specs.List.{insert}
 use Rattle.std.specs.List.Sorted.{IsNonDecreasing, IsPartitionPoint, IsBinarySearchResult}
 use Rattle.std.specs.Ordering.{nat_cmp}
 use Rattle.std.proofs.lemmas.Bool.{cases_lt, lt-leb, le-leb, both_ways}
-use Rattle.std.proofs.lemmas.List.{get_or-drop, get_or-take, at_drop_more, at_drop_all, length-take, length-drop}
+use Rattle.std.proofs.lemmas.List.{get_or-drop, get_or-take, at_drop_more, length-take, length-drop}
 use Rattle.std.proofs.lemmas.List.Sorted.{IsNonDecreasingBy-from_default, searched}
 use Rattle.symbols.specs.declared.EventTest.{EventTest}
 use Rattle.event_classes.specs.Cuts.{cut, cut_by, cuts, at_or_below, Ascending}
@@ -51,9 +51,6 @@ cut_behind high code cs e =
 pub cut_more : (ts : List EventTest) (i code : ℕ) (d : EventTest) (cs low high whole : List ℕ) → i < length ts → cut_by (drop i ts) cs ≡ whole → low ≡ cut (get_or ts i d).low cs → code ≡ min ((get_or ts i d).high + 1) (2 ^ 32 - 1) → high ≡ cut code low → cut_by (drop (i + 1) ts) high ≡ whole
 cut_more ts i code d cs low high whole l h e s f =
     ap (cut_by (drop (i + 1) ts)) (f ∙ cut_behind (get_or ts i d).high code low s ∙ ap (cut ((get_or ts i d).high + 1)) e) ∙ sym (at_drop_more (λ us. cut_by us cs) ts i d l) ∙ h
-
-pub cut_none : (ts : List EventTest) (i : ℕ) (cs whole : List ℕ) → length ts ≤ i → cut_by (drop i ts) cs ≡ whole → cs ≡ whole
-cut_none ts i cs whole l h = sym (at_drop_all (λ us. cut_by us cs) ts i l) ∙ h
 
 -- the number of cuts at or below a code, counted between two numbers
 pub rank_within : (code low n r : ℕ) (ds cs part : List ℕ) → Ascending cs → low ≤ at_or_below code cs → at_or_below code cs ≤ low + n → low + n ≤ length cs → ds ≡ cs → part ≡ take n (drop low ds) → r ≤ n → IsPartitionPoint (λ y. leb y code ≡ true) (λ y. leb y code ≡ false) part r → low + r ≡ at_or_below code cs

@@ -63,6 +63,3 @@ events_untested ts c k h = and_right (nat_lt c (event_classes ts)) (event_passes
 
 pub events_unclassed : (ts : List EventTest) (c k : ℕ) → event_classes ts ≤ c → event_accepts ts c k ≡ false
 events_unclassed ts c k l = and_left (nat_lt c (event_classes ts)) (event_passes ts k (lowest_code (cuts ts) c)) (le-ltb c (event_classes ts) l)
-
-pub events_answer : (ts : List EventTest) (c k s : ℕ) → c < event_classes ts → s ≡ lowest_code (cuts ts) c → event_passes ts k s ≡ event_accepts ts c k
-events_answer ts c k s l e = ap (event_passes ts k) e ∙ sym (ap (λ x. x && event_passes ts k (lowest_code (cuts ts) c)) (lt-ltb c (event_classes ts) l))
