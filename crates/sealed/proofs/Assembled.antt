@@ -1,27 +1,13 @@
--- What each code does to the parts in hand.
-use Rattle.std.proofs.Common.{◌≡◌, ℕ, ◌+◌, ◌<◌, Bool, List, [], ◌∷◌, ◌++◌, length, map, Some, None, Option, refl, ap, ◌∙◌, arith}
-use Rattle.std.proofs.lemmas.List.{reverse-append}
+-- A star is a plus that may be empty.
+use Rattle.std.proofs.Common.{◌≡◌, ℕ, ◌+◌, Bool, List, [], ◌∷◌, Some, None, Option, refl, ◌∙◌}
 use Rattle.pattern.specs.declared.Code.{Code}
 use Rattle.pattern.specs.declared.Code.TheVariants.{Star, Plus, Maybe}
-use Rattle.theory.specs.Seal.{seal}
-use Rattle.theory.specs.Seal as theory
-use Rattle.sealed.specs.declared.part.Part.{Part}
-use Rattle.sealed.specs.Parts.{part_of}
+use Rattle.theory.specs.Seal.{seal, Part}
 use Rattle.sealed.specs.declared.assembly.Assembly.{Assembly}
 use Rattle.sealed.specs.Tables.{entry}
 use Rattle.sealed.specs.Assembling.{stack, Taken}
 
--- a part put on top
-pub pushed : (xs ys : List Part) (x : Part) → ys ≡ xs ++ x ∷ [] → stack ys ≡ part_of x ∷ stack xs
-pushed xs ys x e = ap stack e ∙ ap (map part_of) (reverse-append xs (x ∷ []))
-
--- no part is there to take
-pub no_parts : (xs : List Part) → (0 < length xs → ⊥) → stack xs ≡ []
-no_parts [] none = refl
-no_parts (x ∷ xs) none = absurd (none (omega arith))
-
--- a star is a plus that may be empty
-star_is : (n : ℕ) (cs : List Code) (st : List theory.Part) (f : ℕ → ℕ → Bool) → seal (Star ∷ cs) n st f ≡ seal (Plus ∷ Maybe ∷ cs) n st f
+star_is : (n : ℕ) (cs : List Code) (st : List Part) (f : ℕ → ℕ → Bool) → seal (Star ∷ cs) n st f ≡ seal (Plus ∷ Maybe ∷ cs) n st f
 star_is n cs [] f = refl
 star_is n cs (x ∷ st) f = refl
 
