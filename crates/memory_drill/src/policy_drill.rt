@@ -37,80 +37,92 @@ fn same_places(set: PlaceSet, places: &BTreeSet<u8>) -> bool {
     (0..=255u8).all(|p| set.has(p) == places.contains(&p))
 }
 
-fn few_places(heap: Global, chance: &mut Chance) -> Result<BTreeSet<u8>, AllocError> {
-    let mut places = BTreeSet::new(heap);
-    let n = chance.next() & 3;
-    for _ in 0..n {
-        places.insert(chance.place(64))?;
-    }
-    Ok(places)
-}
-
-fn choose<P: Policy>(
-    policy: &mut P,
-    model: &mut PolicyModel,
-    chance: &mut Chance,
-    tally: &mut PolicyTally,
-) -> Result<(), AllocError> {
-    let held = if chance.rarely(4) {
-        None
-    } else {
-        Some(chance.place(64))
-    };
-    tally.choose = tally.choose.saturating_add(1);
-    let chosen = model.choose(held)?;
-    if !same_places(policy.choose(held), &chosen) {
-        tally.differed = tally.differed.saturating_add(1);
-    }
-    if chance.rarely(2) {
-        tally.drop = tally.drop.saturating_add(1);
-        policy.drop_places(as_place_set(&chosen));
-        model.drop_places(&chosen);
-    }
-    Ok(())
-}
-
-fn one_call<P: Policy>(
+// A policy beside its model, and the calls that chance picks for both.
+#[derive(Drop)]
+struct PolicyDrill<P> {
     heap: Global,
-    policy: &mut P,
-    model: &mut PolicyModel,
-    chance: &mut Chance,
-    tally: &mut PolicyTally,
-) -> Result<(), AllocError> {
-    match chance.next() >> 16 & 7 {
-        0 | 1 | 2 => {
-            let place = chance.place(64);
-            tally.seat = tally.seat.saturating_add(1);
-            policy.seat(place);
-            model.seat(place)?;
+    policy: P,
+    model: PolicyModel,
+    chance: Chance,
+    tally: PolicyTally,
+}
+
+impl<P: Policy> PolicyDrill<P> {
+    fn few_places(&mut self) -> Result<BTreeSet<u8>, AllocError> {
+        let mut places = BTreeSet::new(self.heap);
+        let n = self.chance.next() & 3;
+        for _ in 0..n {
+            places.insert(self.chance.place(64))?;
         }
-        3 => {
-            let places = few_places(heap, chance)?;
-            tally.drop = tally.drop.saturating_add(1);
-            policy.drop_places(as_place_set(&places));
-            model.drop_places(&places);
-        }
-        4 => {
-            let places = few_places(heap, chance)?;
-            tally.touch = tally.touch.saturating_add(1);
-            policy.touch(as_place_set(&places));
-            model.touch(&places)?;
-        }
-        _ => choose(policy, model, chance, tally)?,
+        Ok(places)
     }
-    Ok(())
+
+    fn seat(&mut self) -> Result<(), AllocError> {
+        let place = self.chance.place(64);
+        self.tally.seat = self.tally.seat.saturating_add(1);
+        self.policy.seat(place);
+        self.model.seat(place)
+    }
+
+    fn drop(&mut self, places: &BTreeSet<u8>) {
+        self.tally.drop = self.tally.drop.saturating_add(1);
+        self.policy.drop_places(as_place_set(places));
+        self.model.drop_places(places);
+    }
+
+    fn touch(&mut self) -> Result<(), AllocError> {
+        let places = self.few_places()?;
+        self.tally.touch = self.tally.touch.saturating_add(1);
+        self.policy.touch(as_place_set(&places));
+        self.model.touch(&places)
+    }
+
+    fn choose(&mut self) -> Result<(), AllocError> {
+        let held = if self.chance.rarely(4) {
+            None
+        } else {
+            Some(self.chance.place(64))
+        };
+        self.tally.choose = self.tally.choose.saturating_add(1);
+        let chosen = self.model.choose(held)?;
+        if !same_places(self.policy.choose(held), &chosen) {
+            self.tally.differed = self.tally.differed.saturating_add(1);
+        }
+        if self.chance.rarely(2) {
+            self.drop(&chosen);
+        }
+        Ok(())
+    }
+
+    fn one_call(&mut self) -> Result<(), AllocError> {
+        match self.chance.next() >> 16 & 7 {
+            0..=2 => self.seat()?,
+            3 => {
+                let places = self.few_places()?;
+                self.drop(&places);
+            }
+            4 => self.touch()?,
+            _ => self.choose()?,
+        }
+        Ok(())
+    }
 }
 
 pub fn drill_policy<P: Policy + Drop>(
     heap: Global,
-    mut policy: P,
-    mut model: PolicyModel,
+    policy: P,
+    model: PolicyModel,
     seed: u64,
 ) -> Result<PolicyTally, AllocError> {
-    let mut chance = Chance::new(seed);
-    let mut tally = PolicyTally::default();
+    let mut drill = PolicyDrill {
+        heap,
+        policy,
+        model,
+        chance: Chance::new(seed),
+        tally: PolicyTally::default(),
+    };
     for _ in 0..4000u32 {
-        one_call(heap, &mut policy, &mut model, &mut chance, &mut tally)?;
+        drill.one_call()?;
     }
-    Ok(tally)
+    Ok(drill.tally)
 }

@@ -41,7 +41,8 @@ impl PolicyModel {
     }
 
     pub fn touch(&mut self, places: &BTreeSet<u8>) -> Result<(), AllocError> {
-        self.marks.extend(places.iter().copied().filter(|p| *p < 64))
+        self.marks
+            .extend(places.iter().copied().filter(|p| *p < 64))
     }
 
     pub fn choose(&mut self, held: Option<u8>) -> Result<BTreeSet<u8>, AllocError> {

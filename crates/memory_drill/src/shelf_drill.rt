@@ -46,122 +46,126 @@ impl ShelfTally {
     }
 }
 
-fn know<S: Shelf>(shelf: &S, model: &ShelfModel, chance: &mut Chance, tally: &mut ShelfTally) {
-    let place = chance.place(model.places());
-    let class = chance.class();
-    tally.know = tally.know.saturating_add(1);
-    tally.expect(shelf.know(place, class) == model.know(place, class));
-}
-
-fn note<S: Shelf>(
-    shelf: &mut S,
-    model: &mut ShelfModel,
-    chance: &mut Chance,
-    tally: &mut ShelfTally,
-) -> Result<(), AllocError> {
-    let place = chance.place(model.places());
-    let class = chance.class();
-    let target = chance.place(model.places());
-    tally.note = tally.note.saturating_add(1);
-    if model.count() == model.capacity() {
-        tally.full = tally.full.saturating_add(1);
-    }
-    let noted = shelf.note(place, class, target);
-    if noted {
-        tally.noted = tally.noted.saturating_add(1);
-    }
-    tally.expect(noted == model.note(place, class, target)?);
-    tally.expect(shelf.count() == model.count());
-    Ok(())
-}
-
-// Some places: mostly one, now and then a few, rarely all but one.
-fn some_places(heap: Global, many: u8, chance: &mut Chance) -> Result<BTreeSet<u8>, AllocError> {
-    let mut places = BTreeSet::new(heap);
-    places.insert(chance.place(many))?;
-    if chance.rarely(2) {
-        let more = chance.next() & 7;
-        for _ in 0..more {
-            places.insert(chance.place(many))?;
-        }
-    }
-    if chance.rarely(16) {
-        let held = chance.place(many);
-        places.extend((0..64u8).filter(|p| *p != held))?;
-    }
-    Ok(places)
+// A shelf beside its model, and the calls that chance picks for both.
+#[derive(Drop)]
+struct ShelfDrill<S> {
+    heap: Global,
+    shelf: S,
+    model: ShelfModel,
+    chance: Chance,
+    tally: ShelfTally,
 }
 
 pub fn as_place_set(places: &BTreeSet<u8>) -> PlaceSet {
     places.iter().fold(PlaceSet::empty(), |set, p| set.with(*p))
 }
 
-fn drop_some<S: Shelf>(
-    heap: Global,
-    shelf: &mut S,
-    model: &mut ShelfModel,
-    chance: &mut Chance,
-    tally: &mut ShelfTally,
-) -> Result<(), AllocError> {
-    let places = some_places(heap, model.places(), chance)?;
-    tally.drop = tally.drop.saturating_add(1);
-    let gone = shelf.drop_places(as_place_set(&places));
-    tally.expect(gone == model.drop_places(&places));
-    tally.expect(shelf.count() == model.count());
-    Ok(())
-}
+impl<S: Shelf> ShelfDrill<S> {
+    fn know(&mut self) {
+        let place = self.chance.place(self.model.places());
+        let class = self.chance.class();
+        self.tally.know = self.tally.know.saturating_add(1);
+        self.tally.expect(self.shelf.know(place, class) == self.model.know(place, class));
+    }
 
-fn empty<S: Shelf>(shelf: &mut S, model: &mut ShelfModel, tally: &mut ShelfTally) {
-    tally.empty = tally.empty.saturating_add(1);
-    shelf.empty();
-    model.empty();
-    tally.expect(shelf.count() == 0);
-}
+    fn note(&mut self) -> Result<(), AllocError> {
+        let place = self.chance.place(self.model.places());
+        let class = self.chance.class();
+        let target = self.chance.place(self.model.places());
+        self.tally.note = self.tally.note.saturating_add(1);
+        if self.model.count() == self.model.capacity() {
+            self.tally.full = self.tally.full.saturating_add(1);
+        }
+        let noted = self.shelf.note(place, class, target);
+        if noted {
+            self.tally.noted = self.tally.noted.saturating_add(1);
+        }
+        self.tally
+            .expect(noted == self.model.note(place, class, target)?);
+        self.tally.expect(self.shelf.count() == self.model.count());
+        Ok(())
+    }
 
-// The whole map, with places and classes past the last.
-fn compare_whole<S: Shelf>(shelf: &S, model: &ShelfModel, tally: &mut ShelfTally) {
-    tally.whole = tally.whole.saturating_add(1);
-    tally.expect(shelf.places() == model.places());
-    tally.expect(shelf.capacity() == model.capacity());
-    for place in 0..66u8 {
-        for class in 0..258u16 {
-            tally.expect(shelf.know(place, class) == model.know(place, class));
+    // Some places: mostly one, now and then a few, rarely all but one.
+    fn some_places(&mut self) -> Result<BTreeSet<u8>, AllocError> {
+        let many = self.model.places();
+        let mut places = BTreeSet::new(self.heap);
+        places.insert(self.chance.place(many))?;
+        if self.chance.rarely(2) {
+            let more = self.chance.next() & 7;
+            for _ in 0..more {
+                places.insert(self.chance.place(many))?;
+            }
+        }
+        if self.chance.rarely(16) {
+            let held = self.chance.place(many);
+            places.extend((0..64u8).filter(|p| *p != held))?;
+        }
+        Ok(places)
+    }
+
+    fn drop_some(&mut self) -> Result<(), AllocError> {
+        let places = self.some_places()?;
+        self.tally.drop = self.tally.drop.saturating_add(1);
+        let gone = self.shelf.drop_places(as_place_set(&places));
+        self.tally.expect(gone == self.model.drop_places(&places));
+        self.tally.expect(self.shelf.count() == self.model.count());
+        Ok(())
+    }
+
+    fn empty(&mut self) {
+        self.tally.empty = self.tally.empty.saturating_add(1);
+        self.shelf.empty();
+        self.model.empty();
+        self.tally.expect(self.shelf.count() == 0);
+    }
+
+    // The whole map, with places and classes past the last.
+    fn compare_whole(&mut self) {
+        self.tally.whole = self.tally.whole.saturating_add(1);
+        self.tally
+            .expect(self.shelf.places() == self.model.places());
+        self.tally
+            .expect(self.shelf.capacity() == self.model.capacity());
+        for place in 0..66u8 {
+            for class in 0..258u16 {
+                self.tally.expect(self.shelf.know(place, class) == self.model.know(place, class));
+            }
         }
     }
-}
 
-fn one_call<S: Shelf>(
-    heap: Global,
-    shelf: &mut S,
-    model: &mut ShelfModel,
-    chance: &mut Chance,
-    tally: &mut ShelfTally,
-) -> Result<(), AllocError> {
-    match chance.next() >> 16 & 127 {
-        0 => drop_some(heap, shelf, model, chance, tally)?,
-        1..=80 => note(shelf, model, chance, tally)?,
-        _ => know(shelf, model, chance, tally),
+    fn one_call(&mut self) -> Result<(), AllocError> {
+        match self.chance.next() >> 16 & 127 {
+            0 => self.drop_some()?,
+            1..=80 => self.note()?,
+            _ => self.know(),
+        }
+        if self.chance.rarely(2048) {
+            self.empty();
+        }
+        Ok(())
     }
-    if chance.rarely(2048) {
-        empty(shelf, model, tally);
-    }
-    Ok(())
 }
 
 pub fn drill_shelf<S: Shelf + Drop>(
     heap: Global,
-    mut shelf: S,
-    mut model: ShelfModel,
+    shelf: S,
+    model: ShelfModel,
     seed: u64,
 ) -> Result<ShelfTally, AllocError> {
-    let mut chance = Chance::new(seed);
-    let mut tally = ShelfTally::default();
-    empty(&mut shelf, &mut model, &mut tally);
+    let mut drill = ShelfDrill {
+        heap,
+        shelf,
+        model,
+        chance: Chance::new(seed),
+        tally: ShelfTally::default(),
+    };
+    drill.empty();
     for i in 0..8000u32 {
-        one_call(heap, &mut shelf, &mut model, &mut chance, &mut tally)?;
+        drill.one_call()?;
         if i & 511 == 0 {
-            compare_whole(&shelf, &model, &mut tally);
+            drill.compare_whole();
         }
     }
-    Ok(tally)
+    Ok(drill.tally)
 }

@@ -6,7 +6,6 @@ use std::collections::{BTreeMap, BTreeSet};
 pub struct ShelfModel {
     places: u8,
     capacity: usize,
-    heap: Global,
     steps: BTreeMap<(u8, u16), u8>,
 }
 
@@ -15,7 +14,6 @@ impl ShelfModel {
         ShelfModel {
             places,
             capacity,
-            heap,
             steps: BTreeMap::new(heap),
         }
     }
@@ -54,8 +52,7 @@ impl ShelfModel {
 
     pub fn drop_places(&mut self, places: &BTreeSet<u8>) -> usize {
         let before = self.steps.len();
-        self.steps
-            .retain(|key, target| !places.contains(&key.0) && !places.contains(target));
+        self.steps.retain(|key, target| !places.contains(&key.0) && !places.contains(&*target));
         before.saturating_sub(self.steps.len())
     }
 
