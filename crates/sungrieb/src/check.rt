@@ -65,12 +65,12 @@ impl Sheet {
 
 // The refusal, the text around its place, and a caret under the place.
 fn explain(refusal: Refusal, text: &[u8], out: &mut Out) -> Result<(), Failure> {
-    let number = refusal.cause.number();
+    let cause = refusal.cause;
+    let number = cause.number();
     let place = refusal.place;
-    let words = show::cause(refusal.cause);
     writeln!(
         out,
-        ": refused, {words} (refusal {number} at place {place})"
+        ": refused, {cause} (refusal {number} at place {place})"
     )?;
     show::marked(text, place, out)
 }

@@ -12,6 +12,7 @@ mod lines;
 mod sealing;
 mod session;
 mod show;
+mod wrong;
 
 use crate::lines::Answers;
 use check::Sheet;

@@ -4,8 +4,8 @@ use crate::failure::Failure;
 use crate::lines::{Answers, Out};
 use crate::sealing::Pattern;
 use crate::show;
+use crate::wrong::{Trouble, Wrong};
 use script::command::{Command, Form, Kind};
-use script::hex::HexError;
 use script::{command, hex, words};
 use std::alloc::Global;
 
@@ -14,7 +14,7 @@ pub struct Session {
     drafts: Drafts,
     // The text of a pattern that is given in hexadecimal digits.
     text: Vec<u8>,
-    sealed: Pattern,
+    sealed: Option<Pattern>,
 }
 
 impl Session {
@@ -22,42 +22,50 @@ impl Session {
         Session {
             drafts: Drafts::new(),
             text: Vec::new(heap),
-            sealed: Pattern::Unsealed,
+            sealed: None,
         }
     }
 
-    fn pattern(
-        &mut self,
-        number: u64,
-        form: Form,
-        text: &[u8],
-        out: &mut Out,
-    ) -> Result<(), Failure> {
-        if !form.hex {
-            return read_pattern(&mut self.drafts, form.kind, text, out);
+    fn obey(&mut self, line: &[u8], out: &mut Out) -> Result<(), Trouble> {
+        match command::parse_line(line)? {
+            None => {}
+            Some(Command::Pattern(form, text)) => self.pattern(form, text, out)?,
+            Some(Command::Test(k)) => self.test(k, out)?,
+            Some(Command::Seal) => self.seal(out)?,
+            Some(Command::Class(symbol)) => self.sealed()?.show_class(symbol, out)?,
+            Some(Command::Passes(class, test)) => self.sealed()?.show_passes(class, test, out)?,
+            Some(Command::Positions) => self.sealed()?.show_positions(out)?,
         }
-        match hex::read_hex(words::trimmed(text), &mut self.text) {
-            Ok(()) => read_pattern(&mut self.drafts, form.kind, self.text.as_slice(), out),
-            Err(HexError::NotHex) => show::wrong_line(
-                number,
-                "the text has to be pairs of hexadecimal digits",
-                out,
-            ),
-            Err(HexError::NoMemory) => Err(Failure::NoMemory),
+        Ok(())
+    }
+
+    fn pattern(&mut self, form: Form, text: &[u8], out: &mut Out) -> Result<(), Trouble> {
+        if form.hex {
+            hex::read_hex(words::trimmed(text), &mut self.text)?;
+            read_pattern(&mut self.drafts, form.kind, self.text.as_slice(), out)?;
+        } else {
+            read_pattern(&mut self.drafts, form.kind, text, out)?;
         }
+        Ok(())
     }
 
     fn test(&self, k: u64, out: &mut Out) -> Result<(), Failure> {
         let k = k as usize;
         match self.drafts.last {
-            Kind::Bytes => show::byte_test(self.drafts.bytes.test(k), out),
-            Kind::Events => show::event_test(self.drafts.events.test(k), out),
+            Kind::Bytes => show::test("bytes", self.drafts.bytes.test(k), out),
+            Kind::Events => show::test("events", self.drafts.events.test(k), out),
         }
     }
 
-    fn seal(&mut self, number: u64, out: &mut Out) -> Result<(), Failure> {
-        self.sealed = Pattern::seal(&mut self.drafts);
-        self.sealed.show_sealed(number, out)
+    fn seal(&mut self, out: &mut Out) -> Result<(), Failure> {
+        let pattern = Pattern::seal(&mut self.drafts);
+        pattern.show_sealed(out)?;
+        self.sealed = Some(pattern);
+        Ok(())
+    }
+
+    fn sealed(&self) -> Result<&Pattern, Wrong> {
+        self.sealed.as_ref().ok_or(Wrong::Unsealed)
     }
 }
 
@@ -76,17 +84,10 @@ fn read_pattern(
 
 impl Answers for Session {
     fn answer(&mut self, number: u64, line: &[u8], out: &mut Out) -> Result<(), Failure> {
-        match command::parse_line(line) {
-            Ok(None) => Ok(()),
-            Ok(Some(Command::Pattern(form, text))) => self.pattern(number, form, text, out),
-            Ok(Some(Command::Test(k))) => self.test(k, out),
-            Ok(Some(Command::Seal)) => self.seal(number, out),
-            Ok(Some(Command::Class(symbol))) => self.sealed.show_class(number, symbol, out),
-            Ok(Some(Command::Passes(class, test))) => {
-                self.sealed.show_passes(number, class, test, out)
-            }
-            Ok(Some(Command::Positions)) => self.sealed.show_positions(number, out),
-            Err(mistake) => show::wrong_line(number, mistake, out),
+        match self.obey(line, out) {
+            Ok(()) => Ok(()),
+            Err(Trouble::Line(wrong)) => show::wrong_line(number, wrong, out),
+            Err(Trouble::Program(failure)) => Err(failure),
         }
     }
 }
