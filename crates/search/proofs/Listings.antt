@@ -1,5 +1,5 @@
 -- The turns of a list.
-use Rattle.std.proofs.Common.{◌≡◌, ℕ, zero, suc, ◌+◌, ◌-◌, ◌≤◌, true, false, List, [], ◌∷◌, ◌++◌, length, take, drop, Some, None, Option, sym, refl, ap, ◌∙◌, subst, arith, length-set}
+use Rattle.std.proofs.Common.{◌≡◌, ℕ, zero, suc, ◌+◌, ◌-◌, ◌≤◌, List, [], ◌∷◌, ◌++◌, length, take, drop, Some, None, Ok, Err, Option, sym, refl, ap, ◌∙◌, subst, arith, length-set}
 use Rattle.std.proofs.lemmas.List.{append_assoc, append-nil, take_more_set, drop-set-lt, drop-drop}
 use Rattle.std.proofs.lemmas.Bool.{ltb-true, ltb-false}
 use Rattle.collector.specs.declared.Collector.{Collector}
@@ -119,18 +119,18 @@ module _ {M S P Sym : Type 0} (automaton : AutomatonMeaning M Sym) (shelf : Shel
 
 -- what a push does to a collector
 
-pub pushed_left : (before after : Collector Span) (x : Span) → before.used ≤ size before → Pushed before after x true → size before - before.used ≡ suc (size after - after.used)
+pub pushed_left : (before after : Collector Span) (x : Span) → before.used ≤ size before → Pushed before after x (Ok tt) → size before - before.used ≡ suc (size after - after.used)
 pushed_left before after x l p =
     let lt = ltb-true before.used (size before) (sym p.free) in
     let long : size after ≡ size before = ap length p.written ∙ length-set before.entries.now before.used x in
     omega (arith, p.count)
 
-pub pushed_held : (before after : Collector Span) (x : Span) → Pushed before after x true → held after ≡ held before ++ (x ∷ [])
+pub pushed_held : (before after : Collector Span) (x : Span) → Pushed before after x (Ok tt) → held after ≡ held before ++ (x ∷ [])
 pushed_held before after x p =
     ap (λ n. take n after.entries.now) p.count ∙ ap (take (before.used + 1)) p.written
     ∙ take_more_set before.entries.now before.used x (ltb-true before.used (size before) (sym p.free))
 
-pub pushed_filled : (first before after : Collector Span) (x : Span) → Filled first before → Pushed before after x true → Filled first after
+pub pushed_filled : (first before after : Collector Span) (x : Span) → Filled first before → Pushed before after x (Ok tt) → Filled first after
 pushed_filled first before after x f p =
     let lt = ltb-true before.used (size before) (sym p.free) in
     let long : size after ≡ size before = ap length p.written ∙ length-set before.entries.now before.used x in
@@ -145,17 +145,17 @@ pushed_filled first before after x f p =
       lender = p.lender ∙ f.lender;
     }
 
-pub full_left : (before after : Collector Span) (x : Span) → Pushed before after x false → size before - before.used ≡ 0
-full_left before after x p = omega (arith, ltb-false before.used (size before) (sym p.free))
+pub full_left : (before after : Collector Span) (x y : Span) → Pushed before after x (Err y) → size before - before.used ≡ 0
+full_left before after x y p = omega (arith, ltb-false before.used (size before) (sym p.free))
 
-pub full_held : (before after : Collector Span) (x : Span) → Pushed before after x false → held after ≡ held before
-full_held before after x p = ap (λ n. take n after.entries.now) (p.count ∙ add_none before.used) ∙ ap (take before.used) p.written
+pub full_held : (before after : Collector Span) (x y : Span) → Pushed before after x (Err y) → held after ≡ held before
+full_held before after x y p = ap (λ n. take n after.entries.now) (p.count ∙ add_none before.used) ∙ ap (take before.used) p.written
   where
     add_none : (n : ℕ) → n + 0 ≡ n
     add_none n = omega arith
 
-pub full_filled : (first before after : Collector Span) (x : Span) → Filled first before → Pushed before after x false → Filled first after
-full_filled first before after x f p =
+pub full_filled : (first before after : Collector Span) (x y : Span) → Filled first before → Pushed before after x (Err y) → Filled first after
+full_filled first before after x y f p =
     let used : after.used ≡ before.used = omega (arith, p.count) in
     record {
       within = omega (arith, f.within, ap length p.written);

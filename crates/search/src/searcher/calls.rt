@@ -121,13 +121,13 @@ impl<'p, M: Automaton, S: Shelf, P: Policy> Searcher<'p, M, S, P> {
                     counts,
                 };
             };
-            if !spans.push(span) {
+            let Ok(()) = spans.push(span) else {
                 return Listed {
                     written: spans.used(),
                     rest: Some(at),
                     counts,
                 };
-            }
+            };
             at = span.end;
         }
     }

@@ -30,7 +30,7 @@ loop-span-preserved g c =
     let at = c.loop-span.at in
     let P : Option Span → Type 0 = λ o. IfSome o (λ (y : Span). (at < y.end) × (y.end ≤ length c.args.row.now)) in
     let i = subst P c.in-Some.is e.inside in
-    let p = c.if-not-push.ensures in
+    let p = c.in-Ok.ensures in
     let more : 2097152 * (at - from) + 2097152 ≤ 2097152 * (x.end - from) = omega (arith, v.0, i.0) in (
       omega (arith, v.0, i.0),
       i.1,
@@ -61,23 +61,23 @@ returns-in_default g c =
       automaton = e.automaton ∙ v.4;
     }
 
-pub returns-then-not-push : goal.returns-then-not-push
-returns-then-not-push g c =
+pub returns-in_default-push : goal.returns-in_default-push
+returns-in_default-push g c =
     let v = c.loop-span.invariant in
     let spans = c.loop-span.spans in
     let x = c.in-Some.span in
     let e = c.locate-found.ensures in
-    let p = c.if-not-push.ensures in
+    let p = c.in_default-push.ensures in
     let s = c.args.self.now in
     let n = c.locate-found.new.self in
     record {
       listed = λ ok.
           let l = v.5 ok in
-          subst (λ y. Collected g.M.Automaton g.S.Shelf g.P.Policy (memory g.S.Shelf g.P.Policy s) c.args.row.now (size c.args.spans.now) c.args.from y (record { written = c.used-then-not-push.result; rest = Some c.loop-span.at; counts = c.plus-counts.result }) n) (sym (full_held spans c.push.new.self x p))
+          subst (λ y. Collected g.M.Automaton g.S.Shelf g.P.Policy (memory g.S.Shelf g.P.Policy s) c.args.row.now (size c.args.spans.now) c.args.from y (record { written = c.used-in_default-push.result; rest = Some c.loop-span.at; counts = c.plus-counts.result }) n) (sym (full_held spans c.push.new.self x _ p))
           (listed_full g.M.Automaton g.S.Shelf g.P.Policy c.loop-span.self n (memory g.S.Shelf g.P.Policy s) c.args.row.now (size c.args.spans.now) c.args.from
           (held spans) (size spans - spans.used) c.loop-span.at x c.loop-span.counts c.locate-found.result _
-          e.automaton c.in-Some.is (full_left spans c.push.new.self x p) refl c.plus-counts.ensures (e.located l.ready) l);
-      written = c.used-then-not-push.ensures;
-      filled = full_filled c.args.spans.now spans c.push.new.self x v.3 p;
+          e.automaton c.in-Some.is (full_left spans c.push.new.self x _ p) refl c.plus-counts.ensures (e.located l.ready) l);
+      written = c.used-in_default-push.ensures;
+      filled = full_filled c.args.spans.now spans c.push.new.self x _ v.3 p;
       automaton = e.automaton ∙ v.4;
     }
