@@ -1,4 +1,3 @@
-pub mod Built
 pub mod Complete
 pub mod First
 pub mod Lawful

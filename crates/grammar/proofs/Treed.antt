@@ -5,7 +5,7 @@ use Rattle.items.specs.declared.Sign.{Sign}
 use Rattle.items.specs.declared.Placed.{Placed}
 use Rattle.pattern.specs.declared.Code.{Code}
 use Rattle.grammar.specs.Law.{Shaped}
-use Rattle.grammar.proofs.Built.{built_by, same_tree}
+use Rattle.pattern.proofs.Codes.{tree_is, tree_one}
 use Rattle.grammar.specs.Grammar.{at, atoms, Pattern, Chain, Repeat, Single}
 use Rattle.grammar.specs.Grammar.Pattern.{chain, choice}
 use Rattle.grammar.specs.Grammar.Chain.{repeat, join}
@@ -71,4 +71,4 @@ mutual
 pub tree_of : (n : ℕ) (w : List Placed) (c : List Code) → Pattern n w c → Shaped c (atoms w)
 tree_of n w c r =
     let x = pattern_tree r 1 in
-    record { shape = x.tree; shaped = (x.codes, x.numbered); built = built_by (x.codes, x.numbered); atoms = x.number; sole = λ t h. same_tree h (x.codes, x.numbered) }
+    record { shape = x.tree; shaped = (x.codes, x.numbered); built = (tree_is c x.tree).1 (x.codes, x.numbered); atoms = x.number; sole = λ t h. tree_one c t x.tree h (x.codes, x.numbered) }

@@ -1,5 +1,5 @@
 -- A write where an entry is free.
-use Rattle.std.proofs.Common.{◌≡◌, ◌+◌, ◌<◌, true, cond, List, [], ◌∷◌, Result, length, take, set, ap, ◌∙◌, arith, length-set, lt-ltb}
+use Rattle.std.proofs.Common.{◌≡◌, ◌+◌, ◌<◌, true, cond, [], ◌∷◌, Result, length, take, set, ap, ◌∙◌, length-set, lt-ltb}
 use Rattle.std.specs.Result.{is_ok}
 use Rattle.std.proofs.lemmas.List.{take_more_set}
 use Rattle.collector.specs.declared.Collector.{Collector}
