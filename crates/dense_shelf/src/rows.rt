@@ -4,7 +4,7 @@
 ghost use Rattle.std.specs.Prelude.{◌≡◌, ℕ, ◌+◌, ◌*◌, ◌<◌, ◌≤◌, ◌&&◌, ◌||◌, length, if◌then◌else◌, nat_lt, slice_index};
 ghost use Rattle.sets.specs.Members.{none, plus};
 ghost use Rattle.sets.specs.Places.{member};
-ghost use Rattle.memory.specs.Steps.{size, nothing, notable, after, without};
+ghost use Rattle.memory.specs.Steps.{size, notable, after, without};
 ghost use Rattle.dense_shelf.specs.Rows.{rows, target, wider};
 ghost use Rattle.dense_shelf.specs.Sweep.{Swept, Clean};
 
@@ -16,6 +16,7 @@ pub(crate) struct Rows<'a> {
     pub(crate) bytes: &'a mut [u8],
     pub(crate) places: u8,
     pub(crate) used: u16,
+    ghost serves: { places ≡ rows (length bytes.now) },
     ghost few: { places ≤ 64 },
     ghost fit: { places * 256 ≤ length bytes.now },
     ghost low: { used ≤ 256 },
