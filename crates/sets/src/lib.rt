@@ -2,5 +2,7 @@
 #![tactic(auto)]
 
 mod bit_set;
+mod iter;
 
 pub use bit_set::{BitSet, Place, PlaceSet, Position, PositionSet};
+pub use iter::Iter;
