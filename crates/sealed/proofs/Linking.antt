@@ -6,7 +6,7 @@ use Rattle.std.proofs.lemmas.Bool.{cases_lt, lt-ltb, and_right}
 use Rattle.std.proofs.lemmas.List.{get_or-replicate, get_or_past, length-replicate}
 use Rattle.sets.specs.BitSets.{members}
 use Rattle.sets.specs.Members.{Members, none, either, shared, below}
-use Rattle.sets.specs.Positions.{holds, width, PositionSet}
+use Rattle.sets.specs.Positions.{holds, PositionSet}
 use Rattle.sets.proofs.Known.{members_high}
 use Rattle.sets.proofs.Sets.{zero_mask}
 use Rattle.theory.specs.Seal.{link}

@@ -55,10 +55,8 @@ pub fn united(rows: &[PositionSet; 64], members: PositionSet) -> PositionSet
     ensures { (q : ℕ) → holds result q ≡ some width (λ p. holds members p && entry rows.now p q) }
 {
     let mut all = PositionSet::empty();
-    let mut from = 0;
-    while let Some(p) = members.lowest_from(from) {
+    for p in members {
         all = all.union(rows[p as usize]);
-        from = p + 1;
     }
     all
 }
