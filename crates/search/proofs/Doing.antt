@@ -57,26 +57,29 @@ module _ {M S P Sym : Type 0} (automaton : AutomatonMeaning M Sym) (shelf : Shel
         walk = walk_some X m (memory shelf policy j) (memory shelf policy n) r f s (tallied back.counts) (tallied ahead.counts) (tallied finding.counts) begins so.walk a.walk z;
       }
 
-  pub did_found : (s n : Searcher M S P) (r : List Sym) (f : ℕ) (finding : Found) → n.automaton ≡ s.automaton → length r ≤ 1048576 → f ≤ length r → Located automaton shelf policy (memory shelf policy s) r f finding n → Did automaton shelf policy s (Search (Find r f)) n (Searched (FindsOne finding.span) (tallied finding.counts))
-  did_found s n r f finding e l h w =
-      record {
+  pub did_found : (s n : Searcher M S P) (r q : List Sym) (f : ℕ) (finding : Found) → r ≡ q → n.automaton ≡ s.automaton → length r ≤ 1048576 → f ≤ length r → Located automaton shelf policy (memory shelf policy s) r f finding n → Did automaton shelf policy s (Search (Find q f)) n (Searched (FindsOne finding.span) (tallied finding.counts))
+  did_found s n r q f finding same e l h w =
+      subst (λ y. Did automaton shelf policy s (Search (Find y f)) n (Searched (FindsOne finding.span) (tallied finding.counts))) same
+      (record {
         answered = subst (λ y. Answered (automaton.subject y.now) (memory shelf policy s) (Search (Find r f)) (memory shelf policy n) (Searched (FindsOne finding.span) (tallied finding.counts))) e
             (find_answered (subject automaton n) (memory shelf policy s) (memory shelf policy n) r f finding.span (tallied finding.counts) l h w.span_is w.walk);
         ready = w.ready;
-      }
+      })
 
-  pub did_whole : (s n : Searcher M S P) (r : List Sym) (y : Bool) (ahead : Scan ℕ) → n.automaton ≡ s.automaton → length r ≤ 1048576 → y ≡ whole (subject automaton n).machine r → Reached automaton shelf policy (memory shelf policy s) r 0 ahead n → Did automaton shelf policy s (Search (Whole r)) n (Searched (Told y) (tallied ahead.counts))
-  did_whole s n r y ahead e l is w =
-      record {
+  pub did_whole : (s n : Searcher M S P) (r q : List Sym) (y : Bool) (ahead : Scan ℕ) → r ≡ q → n.automaton ≡ s.automaton → length r ≤ 1048576 → y ≡ whole (subject automaton n).machine r → Reached automaton shelf policy (memory shelf policy s) r 0 ahead n → Did automaton shelf policy s (Search (Whole q)) n (Searched (Told y) (tallied ahead.counts))
+  did_whole s n r q y ahead same e l is w =
+      subst (λ z. Did automaton shelf policy s (Search (Whole z)) n (Searched (Told y) (tallied ahead.counts))) same
+      (record {
         answered = subst (λ z. Answered (automaton.subject z.now) (memory shelf policy s) (Search (Whole r)) (memory shelf policy n) (Searched (Told y) (tallied ahead.counts))) e
             (whole_answered (subject automaton n) (memory shelf policy s) (memory shelf policy n) r y (tallied ahead.counts) l is w.walk);
         ready = w.ready;
-      }
+      })
 
-  pub did_listed : (s n : Searcher M S P) (r : List Sym) (entries f : ℕ) (xs : List Span) (ending : Listed) → n.automaton ≡ s.automaton → length r ≤ 1048576 → f ≤ length r → Collected automaton shelf policy (memory shelf policy s) r entries f xs ending n → Did automaton shelf policy s (Search (Lists r f entries)) n (Searched (ListsFound xs ending.rest) (tallied ending.counts))
-  did_listed s n r entries f xs ending e l h w =
-      record {
+  pub did_listed : (s n : Searcher M S P) (r q : List Sym) (entries f : ℕ) (xs : List Span) (ending : Listed) → r ≡ q → n.automaton ≡ s.automaton → length r ≤ 1048576 → f ≤ length r → Collected automaton shelf policy (memory shelf policy s) r entries f xs ending n → Did automaton shelf policy s (Search (Lists q f entries)) n (Searched (ListsFound xs ending.rest) (tallied ending.counts))
+  did_listed s n r q entries f xs ending same e l h w =
+      subst (λ y. Did automaton shelf policy s (Search (Lists y f entries)) n (Searched (ListsFound xs ending.rest) (tallied ending.counts))) same
+      (record {
         answered = subst (λ y. Answered (automaton.subject y.now) (memory shelf policy s) (Search (Lists r f entries)) (memory shelf policy n) (Searched (ListsFound xs ending.rest) (tallied ending.counts))) e
             (list_answered (subject automaton n) (memory shelf policy s) (memory shelf policy n) r f entries xs ending.rest (tallied ending.counts) l h w.written_is w.rest_is w.walk);
         ready = w.ready;
-      }
+      })

@@ -7,6 +7,7 @@
 
 mod answer;
 mod counts;
+mod row;
 mod searcher;
 
 pub use answer::{Found, Listed, Whole};

@@ -11,6 +11,7 @@ ghost use Rattle.search.specs.Heard.{Passed, RideHeard};
 ghost use Rattle.search.specs.Scanning.{Backed, BackWithin, RidingBack};
 
 use crate::counts::Counts;
+use crate::row::Row;
 use crate::searcher::{Cursor, Run, Scan, Searcher};
 use automaton::Automaton;
 use memory::policy::Policy;
@@ -26,17 +27,21 @@ fn start_at(begins: bool, at: usize, start: Option<usize>) -> Option<usize>
 
 impl<'p, M: Automaton, S: Shelf, P: Policy> Searcher<'p, M, S, P> {
     // Reads one symbol more.
-    fn read_back(&mut self, row: &[M::Symbol], scan: Scan<Option<usize>>) -> Scan<Option<usize>>
+    fn read_back(
+        &mut self,
+        row: &Row<'_, M::Symbol>,
+        scan: Scan<Option<usize>>,
+    ) -> Scan<Option<usize>>
         requires more { 0 < scan.at }
-        requires within { BackWithin (length row.now) scan }
-        requires short { length row.now ≤ 1048576 }
-        ensures backed { (m : Memory PositionSet) → Backed M.Automaton S.Shelf P.Policy m row.now scan self.old → Backed M.Automaton S.Shelf P.Policy m row.now result self.new }
+        requires within { BackWithin (length row.now.symbols.now) scan }
+        ensures backed { (m : Memory PositionSet) → Backed M.Automaton S.Shelf P.Policy m row.now.symbols.now scan self.old → Backed M.Automaton S.Shelf P.Policy m row.now.symbols.now result self.new }
         ensures at { result.at ≡ scan.at - 1 }
-        ensures within { BackWithin (length row.now) result }
+        ensures within { BackWithin (length row.now.symbols.now) result }
         ensures automaton { self.new.automaton ≡ self.old.automaton }
     {
+        let symbols = row.symbols;
         let at = scan.at - 1;
-        let step = self.advance(Direction::Back, scan.cursor, row[at]);
+        let step = self.advance(Direction::Back, scan.cursor, symbols[at]);
         let begins = self.automaton.has_first(step.cursor.set);
         Scan {
             at,
@@ -49,25 +54,26 @@ impl<'p, M: Automaton, S: Shelf, P: Policy> Searcher<'p, M, S, P> {
     // Reads on while steps are known. Nothing is written here, and a symbol costs one class and one look-up.
     fn run_back(
         &self,
-        row: &[M::Symbol],
+        row: &Row<'_, M::Symbol>,
         from: usize,
         run: Run<Option<usize>>,
     ) -> Run<Option<usize>>
         requires from { from ≤ run.at }
-        requires within { run.at ≤ length row.now }
-        ensures riding { (m : Memory PositionSet) (k : Tallies) → RidingBack M.Automaton S.Shelf P.Policy m row.now run k self.now → RidingBack M.Automaton S.Shelf P.Policy m row.now result (known_more k (run.at - result.at)) self.now }
+        requires within { run.at ≤ length row.now.symbols.now }
+        ensures riding { (m : Memory PositionSet) (k : Tallies) → RidingBack M.Automaton S.Shelf P.Policy m row.now.symbols.now run k self.now → RidingBack M.Automaton S.Shelf P.Policy m row.now.symbols.now result (known_more k (run.at - result.at)) self.now }
         ensures from { from ≤ result.at }
         ensures ahead { result.at ≤ run.at }
         ensures low { result.at < run.at → result.place < 64 }
-        ensures passed { Passed (S.Shelf.steps self.now.shelf) (subject M.Automaton self.now).class_of row.now Back run.at run.place (member run.met) result.at result.place (member result.met) }
+        ensures passed { Passed (S.Shelf.steps self.now.shelf) (subject M.Automaton self.now).class_of row.now.symbols.now Back run.at run.place (member run.met) result.at result.place (member result.met) }
         ensures start { (n : ℕ) → run.at ≤ n → IfSome run.mark (λ s. (run.at ≤ s) × (s ≤ n)) → IfSome result.mark (λ s. (result.at ≤ s) × (s ≤ n)) }
     {
+        let symbols = row.symbols;
         let mut at = run.at;
         let mut place = run.place;
         let mut start = run.mark;
         let mut met = run.met;
         while at > from {
-            let class = self.automaton.class_of(row[at - 1]);
+            let class = self.automaton.class_of(symbols[at - 1]);
             let Some(next) = self.shelf.know(place, class) else {
                 break;
             };
@@ -87,18 +93,17 @@ impl<'p, M: Automaton, S: Shelf, P: Policy> Searcher<'p, M, S, P> {
     // Reads on from a set that has a place while steps are known.
     fn ride_back(
         &mut self,
-        row: &[M::Symbol],
+        row: &Row<'_, M::Symbol>,
         from: usize,
         scan: Scan<Option<usize>>,
     ) -> Scan<Option<usize>>
         requires from { from ≤ scan.at }
-        requires within { BackWithin (length row.now) scan }
-        requires short { length row.now ≤ 1048576 }
-        ensures backed { (m : Memory PositionSet) → Backed M.Automaton S.Shelf P.Policy m row.now scan self.old → Backed M.Automaton S.Shelf P.Policy m row.now result self.new }
+        requires within { BackWithin (length row.now.symbols.now) scan }
+        ensures backed { (m : Memory PositionSet) → Backed M.Automaton S.Shelf P.Policy m row.now.symbols.now scan self.old → Backed M.Automaton S.Shelf P.Policy m row.now.symbols.now result self.new }
         ensures from { from ≤ result.at }
         ensures back { result.at ≤ scan.at }
-        ensures heard { RideHeard M.Automaton S.Shelf P.Policy self.old row.now Back scan.at scan.cursor self.new result.at result.cursor }
-        ensures within { BackWithin (length row.now) result }
+        ensures heard { RideHeard M.Automaton S.Shelf P.Policy self.old row.now.symbols.now Back scan.at scan.cursor self.new result.at result.cursor }
+        ensures within { BackWithin (length row.now.symbols.now) result }
         ensures automaton { self.new.automaton ≡ self.old.automaton }
     {
         let Some(place) = scan.cursor.place else {
@@ -129,18 +134,17 @@ impl<'p, M: Automaton, S: Shelf, P: Policy> Searcher<'p, M, S, P> {
     // Scans back from the record's end to `from`.
     pub(in crate::searcher) fn scan_back(
         &mut self,
-        row: &[M::Symbol],
+        row: &Row<'_, M::Symbol>,
         from: usize,
     ) -> Scan<Option<usize>>
-        requires from { from ≤ length row.now }
-        requires short { length row.now ≤ 1048576 }
-        ensures backed { Ready M.Automaton S.Shelf P.Policy self.old → Backed M.Automaton S.Shelf P.Policy (memory S.Shelf P.Policy self.old) row.now result self.new }
+        requires from { from ≤ length row.now.symbols.now }
+        ensures backed { Ready M.Automaton S.Shelf P.Policy self.old → Backed M.Automaton S.Shelf P.Policy (memory S.Shelf P.Policy self.old) row.now.symbols.now result self.new }
         ensures at { result.at ≡ from }
-        ensures within { BackWithin (length row.now) result }
+        ensures within { BackWithin (length row.now.symbols.now) result }
         ensures automaton { self.new.automaton ≡ self.old.automaton }
     {
         let mut scan = Scan {
-            at: row.len(),
+            at: row.symbols.len(),
             cursor: Cursor {
                 set: self.automaton.begin(),
                 place: None,

@@ -1,5 +1,5 @@
 // The calls on a searcher.
-ghost use Rattle.std.specs.Prelude.{◌≡◌, ℕ, ◌<◌, ◌≤◌, ltb, length, drop, IfSome, if◌then◌else◌, Some, None, OnOk, IfErr, Err};
+ghost use Rattle.std.specs.Prelude.{◌≡◌, ◌<◌, ◌≤◌, ltb, length, drop, IfSome, if◌then◌else◌, Some, None};
 ghost use Rattle.refusal.specs.declared.Refusal.{Refusal as Refusing};
 ghost use Rattle.law.specs.Calls.{refusal, Search, Find as FindQuery, Lists as ListQuery, Whole as WholeQuery, Limit as LimitRequest, Clear as ClearRequest, Dropped as Drops};
 ghost use Rattle.search.specs.Counted.{Bounded};
@@ -11,6 +11,7 @@ ghost use Rattle.search.specs.Calling.{reply, found, listed, told, written, Did}
 
 use crate::answer::{Found, Listed, Whole};
 use crate::counts::Counts;
+use crate::row::{Row, refused};
 use crate::searcher::Searcher;
 use automaton::Automaton;
 use collector::Collector;
@@ -19,38 +20,6 @@ use memory::shelf::Shelf;
 use refusal::{Cause, Refusal};
 use sets::PlaceSet;
 use theory::Span;
-
-// A record has at most so many symbols.
-const LONGEST: usize = 1_048_576;
-
-fn refused<T>(cause: Cause) -> Result<T, Refusal>
-    ensures { result ≡ Err (record { cause = cause; place = 0 }) }
-{
-    Err(Refusal { cause, place: 0 })
-}
-
-// A record that is too long is refused.
-fn check_length<T>(row: &[T]) -> Result<(), Refusal>
-    ensures short { OnOk result (length row.now ≤ 1048576) }
-    ensures refused { IfErr result (λ q. refusal (Search (WholeQuery row.now)) ≡ Some q) }
-{
-    if row.len() > LONGEST {
-        return refused(Cause::RecordTooLong);
-    }
-    Ok(())
-}
-
-// So is a search from behind its end.
-fn check_from<T>(row: &[T], from: usize) -> Result<(), Refusal>
-    ensures inside { OnOk result ((length row.now ≤ 1048576) × (from ≤ length row.now)) }
-    ensures refused { IfErr result (λ q. refusal (Search (FindQuery row.now from)) ≡ Some q) }
-{
-    check_length(row)?;
-    if from > row.len() {
-        return refused(Cause::FromPastEnd);
-    }
-    Ok(())
-}
 
 // A span, unless it is empty: a find answers no empty one.
 fn span_of(start: usize, end: usize) -> Option<Span>
@@ -65,11 +34,10 @@ fn span_of(start: usize, end: usize) -> Option<Span>
 
 impl<'p, M: Automaton, S: Shelf, P: Policy> Searcher<'p, M, S, P> {
     // The leftmost, then longest, word that is not empty, from `from` on.
-    fn locate(&mut self, row: &[M::Symbol], from: usize) -> Found
-        requires from { from ≤ length row.now }
-        requires short { length row.now ≤ 1048576 }
-        ensures located { Ready M.Automaton S.Shelf P.Policy self.old → Located M.Automaton S.Shelf P.Policy (memory S.Shelf P.Policy self.old) row.now from result self.new }
-        ensures inside { IfSome result.span (λ x. (from < x.end) × (x.end ≤ length row.now)) }
+    fn locate(&mut self, row: &Row<'_, M::Symbol>, from: usize) -> Found
+        requires from { from ≤ length row.now.symbols.now }
+        ensures located { Ready M.Automaton S.Shelf P.Policy self.old → Located M.Automaton S.Shelf P.Policy (memory S.Shelf P.Policy self.old) row.now.symbols.now from result self.new }
+        ensures inside { IfSome result.span (λ x. (from < x.end) × (x.end ≤ length row.now.symbols.now)) }
         ensures small { Bounded 2097152 result.counts }
         ensures automaton { self.new.automaton ≡ self.old.automaton }
     {
@@ -95,16 +63,21 @@ impl<'p, M: Automaton, S: Shelf, P: Policy> Searcher<'p, M, S, P> {
         ensures idle { (q : Refusing) → refusal (Search (FindQuery row.now from)) ≡ Some q → self.new ≡ self.old }
         ensures automaton { self.new.automaton ≡ self.old.automaton }
     {
-        check_from(row, from)?;
-        Ok(self.locate(row, from))
+        let row = Row::new(row)?;
+        row.check_from(from)?;
+        Ok(self.locate(&row, from))
     }
 
     // Lists into the collector until none is found, or one is found with no entry free.
-    fn collect(&mut self, row: &[M::Symbol], from: usize, spans: &mut Collector<'_, Span>) -> Listed
-        requires from { from ≤ length row.now }
-        requires short { length row.now ≤ 1048576 }
+    fn collect(
+        &mut self,
+        row: &Row<'_, M::Symbol>,
+        from: usize,
+        spans: &mut Collector<'_, Span>,
+    ) -> Listed
+        requires from { from ≤ length row.now.symbols.now }
         requires fresh { spans.old.used ≡ 0 }
-        ensures listed { Ready M.Automaton S.Shelf P.Policy self.old → Collected M.Automaton S.Shelf P.Policy (memory S.Shelf P.Policy self.old) row.now (size spans.old) from (held spans.new) result self.new }
+        ensures listed { Ready M.Automaton S.Shelf P.Policy self.old → Collected M.Automaton S.Shelf P.Policy (memory S.Shelf P.Policy self.old) row.now.symbols.now (size spans.old) from (held spans.new) result self.new }
         ensures written { result.written ≡ spans.new.used }
         ensures filled { Filled spans.old spans.new }
         ensures automaton { self.new.automaton ≡ self.old.automaton }
@@ -145,9 +118,10 @@ impl<'p, M: Automaton, S: Shelf, P: Policy> Searcher<'p, M, S, P> {
         ensures behind { drop (written result) entries.new ≡ drop (written result) entries.old }
         ensures automaton { self.new.automaton ≡ self.old.automaton }
     {
-        check_from(row, from)?;
+        let row = Row::new(row)?;
+        row.check_from(from)?;
         let mut spans = Collector::over(entries);
-        Ok(self.collect(row, from, &mut spans))
+        Ok(self.collect(&row, from, &mut spans))
     }
 
     // Whether the record is a word.
@@ -157,12 +131,12 @@ impl<'p, M: Automaton, S: Shelf, P: Policy> Searcher<'p, M, S, P> {
         ensures idle { (q : Refusing) → refusal (Search (WholeQuery row.now)) ≡ Some q → self.new ≡ self.old }
         ensures automaton { self.new.automaton ≡ self.old.automaton }
     {
-        check_length(row)?;
-        let ahead = self.scan_ahead(row, 0);
-        let is_word = if row.is_empty() {
+        let row = Row::new(row)?;
+        let ahead = self.scan_ahead(&row, 0);
+        let is_word = if row.symbols.is_empty() {
             self.automaton.nullable()
         } else {
-            ahead.mark == row.len()
+            ahead.mark == row.symbols.len()
         };
         Ok(Whole {
             is_word,

@@ -16,7 +16,7 @@ loop-span-init g c =
       bounded_none _ c.default-counts.result none,
       record { within = omega (arith, c.requires.fresh); size = refl; behind = refl; lender = refl },
       refl,
-      λ ok. listing_begun g.M.Automaton g.S.Shelf g.P.Policy c.args.self.now c.args.row.now (size spans) c.args.from (held spans) (size spans - spans.used) c.default-counts.result
+      λ ok. listing_begun g.M.Automaton g.S.Shelf g.P.Policy c.args.self.now c.args.row.now.symbols.now (size spans) c.args.from (held spans) (size spans - spans.used) c.default-counts.result
           (ap (λ n. take n spans.entries.now) c.requires.fresh ∙ take_none spans.entries.now) (omega (arith, c.requires.fresh)) none ok,
     )
 
@@ -28,7 +28,7 @@ loop-span-preserved g c =
     let e = c.locate-found.ensures in
     let from = c.args.from in
     let at = c.loop-span.at in
-    let P : Option Span → Type 0 = λ o. IfSome o (λ (y : Span). (at < y.end) × (y.end ≤ length c.args.row.now)) in
+    let P : Option Span → Type 0 = λ o. IfSome o (λ (y : Span). (at < y.end) × (y.end ≤ length c.args.row.now.symbols.now)) in
     let i = subst P c.in-Some.is e.inside in
     let p = c.in-Ok.ensures in
     let more : 2097152 * (at - from) + 2097152 ≤ 2097152 * (x.end - from) = omega (arith, v.0, i.0) in (
@@ -40,7 +40,7 @@ loop-span-preserved g c =
       e.automaton ∙ v.4,
       λ ok.
           let l = v.5 ok in
-          listing_next g.M.Automaton g.S.Shelf g.P.Policy c.loop-span.self c.locate-found.new.self (memory g.S.Shelf g.P.Policy c.args.self.now) c.args.row.now (size c.args.spans.now) from
+          listing_next g.M.Automaton g.S.Shelf g.P.Policy c.loop-span.self c.locate-found.new.self (memory g.S.Shelf g.P.Policy c.args.self.now) c.args.row.now.symbols.now (size c.args.spans.now) from
           (held spans) (held c.push.new.self) (size spans - spans.used) (size c.push.new.self - c.push.new.self.used) at x c.loop-span.counts c.plus-counts.result c.locate-found.result
           e.automaton c.in-Some.is (pushed_left spans c.push.new.self x v.3.within p) (pushed_held spans c.push.new.self x p) c.plus-counts.ensures (e.located l.ready) l,
     )
@@ -53,7 +53,7 @@ returns-in_default g c =
     record {
       listed = λ ok.
           let l = v.5 ok in
-          listed_none g.M.Automaton g.S.Shelf g.P.Policy c.loop-span.self c.locate-found.new.self (memory g.S.Shelf g.P.Policy c.args.self.now) c.args.row.now (size c.args.spans.now) c.args.from
+          listed_none g.M.Automaton g.S.Shelf g.P.Policy c.loop-span.self c.locate-found.new.self (memory g.S.Shelf g.P.Policy c.args.self.now) c.args.row.now.symbols.now (size c.args.spans.now) c.args.from
           (held spans) (size spans - spans.used) c.loop-span.at c.loop-span.counts c.locate-found.result _
           e.automaton c.in_default.is refl c.plus-counts.ensures (e.located l.ready) l;
       written = c.used.ensures;
@@ -73,8 +73,8 @@ returns-in_default-push g c =
     record {
       listed = λ ok.
           let l = v.5 ok in
-          subst (λ y. Collected g.M.Automaton g.S.Shelf g.P.Policy (memory g.S.Shelf g.P.Policy s) c.args.row.now (size c.args.spans.now) c.args.from y (record { written = c.used-in_default-push.result; rest = Some c.loop-span.at; counts = c.plus-counts.result }) n) (sym (full_held spans c.push.new.self x _ p))
-          (listed_full g.M.Automaton g.S.Shelf g.P.Policy c.loop-span.self n (memory g.S.Shelf g.P.Policy s) c.args.row.now (size c.args.spans.now) c.args.from
+          subst (λ y. Collected g.M.Automaton g.S.Shelf g.P.Policy (memory g.S.Shelf g.P.Policy s) c.args.row.now.symbols.now (size c.args.spans.now) c.args.from y (record { written = c.used-in_default-push.result; rest = Some c.loop-span.at; counts = c.plus-counts.result }) n) (sym (full_held spans c.push.new.self x _ p))
+          (listed_full g.M.Automaton g.S.Shelf g.P.Policy c.loop-span.self n (memory g.S.Shelf g.P.Policy s) c.args.row.now.symbols.now (size c.args.spans.now) c.args.from
           (held spans) (size spans - spans.used) c.loop-span.at x c.loop-span.counts c.locate-found.result _
           e.automaton c.in-Some.is (full_left spans c.push.new.self x _ p) refl c.plus-counts.ensures (e.located l.ready) l);
       written = c.used-in_default-push.ensures;

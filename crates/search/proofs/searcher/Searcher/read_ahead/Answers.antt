@@ -6,14 +6,14 @@ use Rattle.search.proofs.searcher.Searcher.read_ahead.Goals as goal
 pub returns : goal.returns
 returns g c =
     let s = c.args.self.now in
-    let r = c.args.row.now in
+    let r = c.args.row.now.symbols.now in
     let scan = c.args.scan in
     let w = c.requires.within in
     let step = c.advance-step in
     record {
       aheaded = λ m from live h.
-          aheaded_next g.M.Automaton g.S.Shelf g.P.Policy g.met.M.Automaton.proper s step.new.self m r from scan _ c.index-row-at.result step.result c.has_last-ends.result
-          step.ensures.kept refl c.requires.more c.index-row-at.is step.ensures.moved refl c.has_last-ends.ensures c.end_at.ensures c.plus.ensures live h;
+          aheaded_next g.M.Automaton g.S.Shelf g.P.Policy g.met.M.Automaton.proper s step.new.self m r from scan _ c.index-symbols-at.result step.result c.has_last-ends.result
+          step.ensures.kept refl c.requires.more c.index-symbols-at.is step.ensures.moved refl c.has_last-ends.ensures c.end_at.ensures c.plus.ensures live h;
       at = refl;
       within = record {
         at = omega (arith, c.requires.more);

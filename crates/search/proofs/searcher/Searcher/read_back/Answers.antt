@@ -6,14 +6,14 @@ use Rattle.search.proofs.searcher.Searcher.read_back.Goals as goal
 pub returns : goal.returns
 returns g c =
     let s = c.args.self.now in
-    let r = c.args.row.now in
+    let r = c.args.row.now.symbols.now in
     let scan = c.args.scan in
     let w = c.requires.within in
     let step = c.advance-step in
     record {
       backed = λ m h.
-          backed_next g.M.Automaton g.S.Shelf g.P.Policy g.met.M.Automaton.proper s step.new.self m r scan _ c.index-row-at.result step.result c.has_first-begins.result
-          step.ensures.kept (omega (arith, c.requires.more)) (omega (arith, c.requires.more, w.at)) c.index-row-at.is step.ensures.moved refl c.has_first-begins.ensures c.start_at.ensures c.plus.ensures h;
+          backed_next g.M.Automaton g.S.Shelf g.P.Policy g.met.M.Automaton.proper s step.new.self m r scan _ c.index-symbols-at.result step.result c.has_first-begins.result
+          step.ensures.kept (omega (arith, c.requires.more)) (omega (arith, c.requires.more, w.at)) c.index-symbols-at.is step.ensures.moved refl c.has_first-begins.ensures c.start_at.ensures c.plus.ensures h;
       at = refl;
       within = record {
         at = omega (arith, w.at);

@@ -11,7 +11,7 @@ use Rattle.search.proofs.searcher.Searcher.ride_ahead.Goals as goal
 pub returns : goal.returns
 returns g c =
     let s = c.args.self.now in
-    let r = c.args.row.now in
+    let r = c.args.row.now.symbols.now in
     let scan = c.args.scan in
     let w = c.requires.within in
     let e = c.run_ahead-last.ensures in

@@ -10,13 +10,13 @@ use Rattle.search.specs.Remembered.{subject}
 use Rattle.search.specs.Scanning.{RidingAhead}
 use Rattle.search.proofs.searcher.Searcher.run_ahead.Given as goal
 
-abbrev pub invariant-loop-class : goal.invariant-loop-class
-invariant-loop-class g l =
-    (l.initial.at ≤ l.at) × (l.at ≤ length l.row) × (l.initial.at < l.at → l.place < 64)
-    × (l.initial.end ≤ length l.row → l.end ≤ length l.row)
-    × ((m : Memory PositionSet) (from : ℕ) (k : Tallies) → RidingAhead g.M.Automaton g.S.Shelf g.P.Policy m l.row from (record { at = l.initial.at; place = l.initial.place; mark = l.initial.end; met = l.initial.met }) k l.self →
-    RidingAhead g.M.Automaton g.S.Shelf g.P.Policy m l.row from (record { at = l.at; place = l.place; mark = l.end; met = l.met }) (known_more k (l.at - l.initial.at)) l.self)
-    × Passed (g.S.Shelf.steps l.self.shelf) (subject g.M.Automaton l.self).class_of l.row Ahead l.initial.at l.initial.place (member l.initial.met) l.at l.place (member l.met)
+abbrev pub invariant-loop-symbols : goal.invariant-loop-symbols
+invariant-loop-symbols g l =
+    (l.initial.at ≤ l.at) × (l.at ≤ length l.row.symbols.now) × (l.initial.at < l.at → l.place < 64)
+    × (l.initial.end ≤ length l.row.symbols.now → l.end ≤ length l.row.symbols.now)
+    × ((m : Memory PositionSet) (from : ℕ) (k : Tallies) → RidingAhead g.M.Automaton g.S.Shelf g.P.Policy m l.row.symbols.now from (record { at = l.initial.at; place = l.initial.place; mark = l.initial.end; met = l.initial.met }) k l.self →
+    RidingAhead g.M.Automaton g.S.Shelf g.P.Policy m l.row.symbols.now from (record { at = l.at; place = l.place; mark = l.end; met = l.met }) (known_more k (l.at - l.initial.at)) l.self)
+    × Passed (g.S.Shelf.steps l.self.shelf) (subject g.M.Automaton l.self).class_of l.row.symbols.now Ahead l.initial.at l.initial.place (member l.initial.met) l.at l.place (member l.met)
 
-abbrev pub decreases-loop-class : goal.decreases-loop-class
-decreases-loop-class g l = length l.row - l.at
+abbrev pub decreases-loop-symbols : goal.decreases-loop-symbols
+decreases-loop-symbols g l = length l.row.symbols.now - l.at

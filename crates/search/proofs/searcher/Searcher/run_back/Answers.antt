@@ -13,7 +13,7 @@ loop-at-init g c =
       omega arith,
       (λ l. absurd (omega arith)),
       (λ n l h. h),
-      λ m k h. subst (λ y. RidingBack g.M.Automaton g.S.Shelf g.P.Policy m c.args.row.now run y c.args.self.now) (sym (none_more k _ (omega arith))) h,
+      λ m k h. subst (λ y. RidingBack g.M.Automaton g.S.Shelf g.P.Policy m c.args.row.now.symbols.now run y c.args.self.now) (sym (none_more k _ (omega arith))) h,
       not_yet,
     )
 
@@ -33,11 +33,11 @@ loop-at-preserved g c =
       (λ l. omega (arith, (b.within c.loop-at.place c.class_of-class.result next (sym known)).2, b.few)),
       (λ n l h. start_within begins i at n c.loop-at.start c.start_at-start.result c.start_at-start.ensures (omega arith) (omega (arith, v.1)) (v.3 n l h)),
       λ m k h.
-          riding_next g.M.Automaton g.S.Shelf g.P.Policy g.met.M.Automaton.proper s m c.args.row.now
+          riding_next g.M.Automaton g.S.Shelf g.P.Policy g.met.M.Automaton.proper s m c.args.row.now.symbols.now
           (record { at = at; place = c.loop-at.place; mark = c.loop-at.start; met = c.loop-at.met })
           (record { at = i; place = next; mark = c.start_at-start.result; met = c.with-met.result })
-          (known_more k (first - at)) (known_more k (first - i)) c.index-row-at.result c.class_of-class.result next begins
-          (omega arith) (omega (arith, v.1, c.requires.within)) c.index-row-at.is c.class_of-class.ensures.fits c.class_of-class.ensures.is known refl c.has.ensures c.start_at-start.ensures
+          (known_more k (first - at)) (known_more k (first - i)) c.index-symbols-at.result c.class_of-class.result next begins
+          (omega arith) (omega (arith, v.1, c.requires.within)) c.index-symbols-at.is c.class_of-class.ensures.fits c.class_of-class.ensures.is known refl c.has.ensures c.start_at-start.ensures
           (one_more k (first - at) (first - i) (omega (arith, v.1))) (v.4 m k h),
-      passed_more at i c.index-row-at.result v.5 (omega (arith, v.1), refl) c.index-row-at.is (ap (g.S.Shelf.steps s.shelf c.loop-at.place) (sym c.class_of-class.ensures.is) ∙ sym known) c.with-met.ensures,
+      passed_more at i c.index-symbols-at.result v.5 (omega (arith, v.1), refl) c.index-symbols-at.is (ap (g.S.Shelf.steps s.shelf c.loop-at.place) (sym c.class_of-class.ensures.is) ∙ sym known) c.with-met.ensures,
     )

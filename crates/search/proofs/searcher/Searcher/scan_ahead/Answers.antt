@@ -10,7 +10,7 @@ loop-self-init g c =
     let none = no_counts c.default.result c.default.ensures in (
       record { at = c.requires.from; end = c.requires.from; counts = bounded_none _ c.default.result none },
       refl,
-      λ ok. aheaded_begun g.M.Automaton g.S.Shelf g.P.Policy g.met.M.Automaton.proper c.args.self.now c.args.row.now c.args.start _ ok refl refl c.begin.ensures refl none,
+      λ ok. aheaded_begun g.M.Automaton g.S.Shelf g.P.Policy g.met.M.Automaton.proper c.args.self.now c.args.row.now.symbols.now c.args.start _ ok refl refl c.begin.ensures refl none,
     )
 
 pub loop-self-preserved : goal.loop-self-preserved
@@ -27,14 +27,14 @@ loop-self-preserved g c =
 pub loop-self-smaller : goal.loop-self-smaller
 loop-self-smaller g c =
     let at = c.loop-self.scan.at in
-    let l : at < length c.args.row.now = and_lt at (length c.args.row.now) _ c.loop-self-test.ensures in
+    let l : at < length c.args.row.now.symbols.now = and_lt at (length c.args.row.now.symbols.now) _ c.loop-self-test.ensures in
     omega (arith, c.read_ahead-scan.ensures.at, c.ride_ahead-scan.ensures.ahead)
 
 pub returns : goal.returns
 returns g c =
     let v = c.loop-self.invariant in
     record {
-      reached = λ ok. reached g.M.Automaton g.S.Shelf g.P.Policy g.met.M.Automaton.proper c.loop-self.self (memory g.S.Shelf g.P.Policy c.args.self.now) c.args.row.now c.args.start c.loop-self.scan v.0.at (sym c.loop-self-test.ensures) (v.2 ok);
+      reached = λ ok. reached g.M.Automaton g.S.Shelf g.P.Policy g.met.M.Automaton.proper c.loop-self.self (memory g.S.Shelf g.P.Policy c.args.self.now) c.args.row.now.symbols.now c.args.start c.loop-self.scan v.0.at (sym c.loop-self-test.ensures) (v.2 ok);
       within = v.0;
       automaton = v.1;
     }

@@ -9,5 +9,5 @@ loop-scan-init g c =
       omega arith,
       record { at = omega arith; start = tt; counts = bounded_none _ c.default.result none },
       refl,
-      λ ok. backed_begun g.M.Automaton g.S.Shelf g.P.Policy g.met.M.Automaton.proper c.args.self.now c.args.row.now _ ok refl c.begin.ensures refl refl none,
+      λ ok. backed_begun g.M.Automaton g.S.Shelf g.P.Policy g.met.M.Automaton.proper c.args.self.now c.args.row.now.symbols.now _ ok refl c.begin.ensures refl refl none,
     )
