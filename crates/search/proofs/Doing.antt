@@ -15,8 +15,8 @@ use Rattle.law.specs.Calls.{Find, Lists, Listed as ListsFound, Whole, Request, S
 use Rattle.law.specs.Law.{ByWords}
 use Rattle.law.proofs.Calling.{calling, says}
 use Rattle.automaton.specs.declared.automaton.Automaton.{Ghosts as AutomatonMeaning}
-use Rattle.search.specs.declared.searcher.Searcher.{Searcher}
-use Rattle.search.specs.declared.searcher.Scan.{Scan}
+use Rattle.search.specs.declared.scanner.Scanner.{Scanner}
+use Rattle.search.specs.declared.scanner.Scan.{Scan}
 use Rattle.search.specs.declared.answer.Found.{Found}
 use Rattle.search.specs.declared.answer.Listed.{Listed}
 use Rattle.search.specs.Counted.{tallied}
@@ -27,21 +27,21 @@ use Rattle.search.proofs.Scans.{ready_next}
 use Rattle.search.proofs.Ends.{find_some, walk_some, find_answered, list_answered, whole_answered}
 
 module _ {M S P Sym : Type 0} (automaton : AutomatonMeaning M Sym) (shelf : ShelfMeaning S) (policy : PolicyMeaning P) (laws : (m : M) → Proper (automaton.subject m)) where
-  pub did_by : (s s' : Searcher M S P) (c : Request Sym) (a : Reply) → Ready automaton shelf policy s → Kept automaton shelf s s' → Answered (subject automaton s) (memory shelf policy s) c (memory shelf policy s') a → Did automaton shelf policy s c s' a
+  pub did_by : (s s' : Scanner M S P) (c : Request Sym) (a : Reply) → Ready automaton shelf policy s → Kept automaton shelf s s' → Answered (subject automaton s) (memory shelf policy s) c (memory shelf policy s') a → Did automaton shelf policy s c s' a
   did_by s s' c a ready k w =
       record {
         answered = w;
         ready = ready_next automaton shelf policy laws s s' ready k (calling (subject automaton s) (laws s.automaton.now) (memory shelf policy s) c (memory shelf policy s') a ready.sound w).sound;
       }
 
-  pub did_refused : (s : Searcher M S P) (c : Request Sym) (q : Refusal) → refusal c ≡ Some q → Ready automaton shelf policy s → Did automaton shelf policy s c s (Refuses q)
+  pub did_refused : (s : Scanner M S P) (c : Request Sym) (q : Refusal) → refusal c ≡ Some q → Ready automaton shelf policy s → Did automaton shelf policy s c s (Refuses q)
   did_refused s c q e ready = record { answered = refused q e refl refl; ready = ready }
 
   -- what a search found is right by the pattern's words
-  pub by_words : (s n : Searcher M S P) (c : Request Sym) (a : Reply) → Ready automaton shelf policy s → Did automaton shelf policy s c n a → ByWords (subject automaton s) c a
+  pub by_words : (s n : Scanner M S P) (c : Request Sym) (a : Reply) → Ready automaton shelf policy s → Did automaton shelf policy s c n a → ByWords (subject automaton s) c a
   by_words s n c a ready did = (calling (subject automaton s) (laws s.automaton.now) (memory shelf policy s) c (memory shelf policy n) a ready.sound did.answered).words
 
-  pub located_some : (j n : Searcher M S P) (m : Memory PositionSet) (r : List Sym) (f s : ℕ) (back : Scan (Option ℕ)) (ahead : Scan ℕ) (finding : Found) → n.automaton ≡ j.automaton → back.at ≡ f → back.mark ≡ Some s → finding.span ≡ cond (ltb s ahead.mark) (Some (record { start = s; end = ahead.mark })) None → tallied finding.counts ≡ both (tallied back.counts) (tallied ahead.counts) → Backed automaton shelf policy m r back j → Reached automaton shelf policy (memory shelf policy j) r s ahead n → Located automaton shelf policy m r f finding n
+  pub located_some : (j n : Scanner M S P) (m : Memory PositionSet) (r : List Sym) (f s : ℕ) (back : Scan (Option ℕ)) (ahead : Scan ℕ) (finding : Found) → n.automaton ≡ j.automaton → back.at ≡ f → back.mark ≡ Some s → finding.span ≡ cond (ltb s ahead.mark) (Some (record { start = s; end = ahead.mark })) None → tallied finding.counts ≡ both (tallied back.counts) (tallied ahead.counts) → Backed automaton shelf policy m r back j → Reached automaton shelf policy (memory shelf policy j) r s ahead n → Located automaton shelf policy m r f finding n
   located_some j n m r f s back ahead finding e at is span z b a =
       let X = subject automaton n in
       let so : BackSoFar X m r f back.cursor.set back.mark (memory shelf policy j) (tallied back.counts) =
@@ -57,7 +57,7 @@ module _ {M S P Sym : Type 0} (automaton : AutomatonMeaning M Sym) (shelf : Shel
         walk = walk_some X m (memory shelf policy j) (memory shelf policy n) r f s (tallied back.counts) (tallied ahead.counts) (tallied finding.counts) begins so.walk a.walk z;
       }
 
-  pub did_found : (s n : Searcher M S P) (r q : List Sym) (f : ℕ) (finding : Found) → r ≡ q → n.automaton ≡ s.automaton → length r ≤ 1048576 → f ≤ length r → Located automaton shelf policy (memory shelf policy s) r f finding n → Did automaton shelf policy s (Search (Find q f)) n (Searched (FindsOne finding.span) (tallied finding.counts))
+  pub did_found : (s n : Scanner M S P) (r q : List Sym) (f : ℕ) (finding : Found) → r ≡ q → n.automaton ≡ s.automaton → length r ≤ 1048576 → f ≤ length r → Located automaton shelf policy (memory shelf policy s) r f finding n → Did automaton shelf policy s (Search (Find q f)) n (Searched (FindsOne finding.span) (tallied finding.counts))
   did_found s n r q f finding same e l h w =
       subst (λ y. Did automaton shelf policy s (Search (Find y f)) n (Searched (FindsOne finding.span) (tallied finding.counts))) same
       (record {
@@ -66,7 +66,7 @@ module _ {M S P Sym : Type 0} (automaton : AutomatonMeaning M Sym) (shelf : Shel
         ready = w.ready;
       })
 
-  pub did_whole : (s n : Searcher M S P) (r q : List Sym) (y : Bool) (ahead : Scan ℕ) → r ≡ q → n.automaton ≡ s.automaton → length r ≤ 1048576 → y ≡ whole (subject automaton n).machine r → Reached automaton shelf policy (memory shelf policy s) r 0 ahead n → Did automaton shelf policy s (Search (Whole q)) n (Searched (Told y) (tallied ahead.counts))
+  pub did_whole : (s n : Scanner M S P) (r q : List Sym) (y : Bool) (ahead : Scan ℕ) → r ≡ q → n.automaton ≡ s.automaton → length r ≤ 1048576 → y ≡ whole (subject automaton n).machine r → Reached automaton shelf policy (memory shelf policy s) r 0 ahead n → Did automaton shelf policy s (Search (Whole q)) n (Searched (Told y) (tallied ahead.counts))
   did_whole s n r q y ahead same e l is w =
       subst (λ z. Did automaton shelf policy s (Search (Whole z)) n (Searched (Told y) (tallied ahead.counts))) same
       (record {
@@ -75,7 +75,7 @@ module _ {M S P Sym : Type 0} (automaton : AutomatonMeaning M Sym) (shelf : Shel
         ready = w.ready;
       })
 
-  pub did_listed : (s n : Searcher M S P) (r q : List Sym) (entries f : ℕ) (xs : List Span) (ending : Listed) → r ≡ q → n.automaton ≡ s.automaton → length r ≤ 1048576 → f ≤ length r → Collected automaton shelf policy (memory shelf policy s) r entries f xs ending n → Did automaton shelf policy s (Search (Lists q f entries)) n (Searched (ListsFound xs ending.rest) (tallied ending.counts))
+  pub did_listed : (s n : Scanner M S P) (r q : List Sym) (entries f : ℕ) (xs : List Span) (ending : Listed) → r ≡ q → n.automaton ≡ s.automaton → length r ≤ 1048576 → f ≤ length r → Collected automaton shelf policy (memory shelf policy s) r entries f xs ending n → Did automaton shelf policy s (Search (Lists q f entries)) n (Searched (ListsFound xs ending.rest) (tallied ending.counts))
   did_listed s n r q entries f xs ending same e l h w =
       subst (λ y. Did automaton shelf policy s (Search (Lists y f entries)) n (Searched (ListsFound xs ending.rest) (tallied ending.counts))) same
       (record {

@@ -4,12 +4,12 @@ use Rattle.sets.specs.Positions.{PositionSet}
 use Rattle.memory.specs.declared.shelf.Shelf.{Ghosts as ShelfMeaning}
 use Rattle.memory.specs.declared.policy.Policy.{Ghosts as PolicyMeaning}
 use Rattle.theory.specs.declared.Direction.{Direction}
-use Rattle.search.specs.declared.searcher.Searcher.{Searcher}
-use Rattle.search.specs.declared.searcher.Cursor.{Cursor}
+use Rattle.search.specs.declared.scanner.Scanner.{Scanner}
+use Rattle.search.specs.declared.scanner.Cursor.{Cursor}
 use Rattle.memory.specs.Live.{News}
 use Rattle.search.specs.Heard.{Heard, SeatingHeard, BuildingHeard}
 
-pub build_plain : {M S P : Type 0} (shelf : ShelfMeaning S) (policy : PolicyMeaning P) (s : Searcher M S P) (d : Direction) (held : Option ℕ) (t : Searcher M S P) (set : PositionSet) (place : Option ℕ) (to : Cursor) → to ≡ record { set = set; place = place } → SeatingHeard shelf policy s set d held t place → BuildingHeard shelf policy s d held t to
+pub build_plain : {M S P : Type 0} (shelf : ShelfMeaning S) (policy : PolicyMeaning P) (s : Scanner M S P) (d : Direction) (held : Option ℕ) (t : Scanner M S P) (set : PositionSet) (place : Option ℕ) (to : Cursor) → to ≡ record { set = set; place = place } → SeatingHeard shelf policy s set d held t place → BuildingHeard shelf policy s d held t to
 build_plain shelf policy s d held t set place to e h =
     subst (λ y. BuildingHeard shelf policy s d held t y) (sym e) record { between = t; seating = h; silent = refl }
 

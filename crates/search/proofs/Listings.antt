@@ -15,7 +15,7 @@ use Rattle.law.specs.Memory.{Memory}
 use Rattle.law.specs.Reading.{Counts as Tallies, zeros, both, Walk}
 use Rattle.law.proofs.Walks.{walk_append}
 use Rattle.automaton.specs.declared.automaton.Automaton.{Ghosts as AutomatonMeaning}
-use Rattle.search.specs.declared.searcher.Searcher.{Searcher}
+use Rattle.search.specs.declared.scanner.Scanner.{Scanner}
 use Rattle.search.specs.declared.answer.Found.{Found}
 use Rattle.search.specs.declared.answer.Listed.{Listed}
 use Rattle.search.specs.declared.counts.Counts.{Counts}
@@ -74,7 +74,7 @@ module _ {Sym : Type 0} (X : Subject Sym PositionSet) where
   list_full m r entries from xs at x n n' k k' kk e = over m r entries from xs 0 at (Some at) n n' k k' kk (ap (λ o. (no_entry at o).written) e) (sym (ap (λ o. (no_entry at o).rest) e)) refl
 
 module _ {M S P Sym : Type 0} (automaton : AutomatonMeaning M Sym) (shelf : ShelfMeaning S) (policy : PolicyMeaning P) where
-  pub listing_begun : (s : Searcher M S P) (r : List Sym) (entries from : ℕ) (xs : List Span) (left : ℕ) (k : Counts) → xs ≡ [] → left ≡ entries → tallied k ≡ zeros → Ready automaton shelf policy s → Listing automaton shelf policy (memory shelf policy s) r entries from xs left from k s
+  pub listing_begun : (s : Scanner M S P) (r : List Sym) (entries from : ℕ) (xs : List Span) (left : ℕ) (k : Counts) → xs ≡ [] → left ≡ entries → tallied k ≡ zeros → Ready automaton shelf policy s → Listing automaton shelf policy (memory shelf policy s) r entries from xs left from k s
   listing_begun s r entries from xs left k ex el z ready =
       let X = subject automaton s in
       let m = memory shelf policy s in
@@ -84,10 +84,10 @@ module _ {M S P Sym : Type 0} (automaton : AutomatonMeaning M Sym) (shelf : Shel
       }
 
   -- the same of the searcher after a find
-  after : (s n : Searcher M S P) (m : Memory PositionSet) (r : List Sym) (entries from : ℕ) (xs : List Span) (left at : ℕ) (k : Counts) → n.automaton ≡ s.automaton → Listing automaton shelf policy m r entries from xs left at k s → ListSoFar (subject automaton n) m r entries from xs left at (memory shelf policy s) (tallied k)
+  after : (s n : Scanner M S P) (m : Memory PositionSet) (r : List Sym) (entries from : ℕ) (xs : List Span) (left at : ℕ) (k : Counts) → n.automaton ≡ s.automaton → Listing automaton shelf policy m r entries from xs left at k s → ListSoFar (subject automaton n) m r entries from xs left at (memory shelf policy s) (tallied k)
   after s n m r entries from xs left at k e h = subst (λ y. ListSoFar (automaton.subject y.now) m r entries from xs left at (memory shelf policy s) (tallied k)) (sym e) h.so_far
 
-  pub listing_next : (s n : Searcher M S P) (m : Memory PositionSet) (r : List Sym) (entries from : ℕ) (xs ys : List Span) (left less at : ℕ) (x : Span) (k kk : Counts) (finding : Found) → n.automaton ≡ s.automaton → finding.span ≡ Some x → left ≡ suc less → ys ≡ xs ++ (x ∷ []) → tallied kk ≡ both (tallied k) (tallied finding.counts) → Located automaton shelf policy (memory shelf policy s) r at finding n → Listing automaton shelf policy m r entries from xs left at k s → Listing automaton shelf policy m r entries from ys less x.end kk n
+  pub listing_next : (s n : Scanner M S P) (m : Memory PositionSet) (r : List Sym) (entries from : ℕ) (xs ys : List Span) (left less at : ℕ) (x : Span) (k kk : Counts) (finding : Found) → n.automaton ≡ s.automaton → finding.span ≡ Some x → left ≡ suc less → ys ≡ xs ++ (x ∷ []) → tallied kk ≡ both (tallied k) (tallied finding.counts) → Located automaton shelf policy (memory shelf policy s) r at finding n → Listing automaton shelf policy m r entries from xs left at k s → Listing automaton shelf policy m r entries from ys less x.end kk n
   listing_next s n m r entries from xs ys left less at x k kk finding e is el ey z w h =
       let X = subject automaton n in
       record {
@@ -97,7 +97,7 @@ module _ {M S P Sym : Type 0} (automaton : AutomatonMeaning M Sym) (shelf : Shel
             (subst (λ y. ListSoFar X m r entries from xs y at (memory shelf policy s) (tallied k)) el (after s n m r entries from xs left at k e h)));
       }
 
-  listed : (n : Searcher M S P) (m : Memory PositionSet) (r : List Sym) (entries from : ℕ) (xs : List Span) (rest : Option ℕ) (k : Tallies) (ending : Listed) → Ready automaton shelf policy n → rest ≡ ending.rest → k ≡ tallied ending.counts → ListOver (subject automaton n) m r entries from xs rest (memory shelf policy n) k → Collected automaton shelf policy m r entries from xs ending n
+  listed : (n : Scanner M S P) (m : Memory PositionSet) (r : List Sym) (entries from : ℕ) (xs : List Span) (rest : Option ℕ) (k : Tallies) (ending : Listed) → Ready automaton shelf policy n → rest ≡ ending.rest → k ≡ tallied ending.counts → ListOver (subject automaton n) m r entries from xs rest (memory shelf policy n) k → Collected automaton shelf policy m r entries from xs ending n
   listed n m r entries from xs rest k ending ready er ek o =
       record {
         ready = ready;
@@ -106,12 +106,12 @@ module _ {M S P Sym : Type 0} (automaton : AutomatonMeaning M Sym) (shelf : Shel
         walk = subst (λ y. Walk (subject automaton n) m (list_reads (subject automaton n).machine r entries from) (memory shelf policy n) y) ek o.walk;
       }
 
-  pub listed_none : (s n : Searcher M S P) (m : Memory PositionSet) (r : List Sym) (entries from : ℕ) (xs : List Span) (left at : ℕ) (k : Counts) (finding : Found) (ending : Listed) → n.automaton ≡ s.automaton → finding.span ≡ None → None ≡ ending.rest → tallied ending.counts ≡ both (tallied k) (tallied finding.counts) → Located automaton shelf policy (memory shelf policy s) r at finding n → Listing automaton shelf policy m r entries from xs left at k s → Collected automaton shelf policy m r entries from xs ending n
+  pub listed_none : (s n : Scanner M S P) (m : Memory PositionSet) (r : List Sym) (entries from : ℕ) (xs : List Span) (left at : ℕ) (k : Counts) (finding : Found) (ending : Listed) → n.automaton ≡ s.automaton → finding.span ≡ None → None ≡ ending.rest → tallied ending.counts ≡ both (tallied k) (tallied finding.counts) → Located automaton shelf policy (memory shelf policy s) r at finding n → Listing automaton shelf policy m r entries from xs left at k s → Collected automaton shelf policy m r entries from xs ending n
   listed_none s n m r entries from xs left at k finding ending e is er z w h =
       listed n m r entries from xs None (both (tallied k) (tallied finding.counts)) ending w.ready er (sym z)
       (list_none (subject automaton n) m r entries from xs left at (memory shelf policy s) (memory shelf policy n) (tallied k) (tallied finding.counts) _ (sym w.span_is ∙ is) refl w.walk (after s n m r entries from xs left at k e h))
 
-  pub listed_full : (s n : Searcher M S P) (m : Memory PositionSet) (r : List Sym) (entries from : ℕ) (xs : List Span) (left at : ℕ) (x : Span) (k : Counts) (finding : Found) (ending : Listed) → n.automaton ≡ s.automaton → finding.span ≡ Some x → left ≡ 0 → Some at ≡ ending.rest → tallied ending.counts ≡ both (tallied k) (tallied finding.counts) → Located automaton shelf policy (memory shelf policy s) r at finding n → Listing automaton shelf policy m r entries from xs left at k s → Collected automaton shelf policy m r entries from xs ending n
+  pub listed_full : (s n : Scanner M S P) (m : Memory PositionSet) (r : List Sym) (entries from : ℕ) (xs : List Span) (left at : ℕ) (x : Span) (k : Counts) (finding : Found) (ending : Listed) → n.automaton ≡ s.automaton → finding.span ≡ Some x → left ≡ 0 → Some at ≡ ending.rest → tallied ending.counts ≡ both (tallied k) (tallied finding.counts) → Located automaton shelf policy (memory shelf policy s) r at finding n → Listing automaton shelf policy m r entries from xs left at k s → Collected automaton shelf policy m r entries from xs ending n
   listed_full s n m r entries from xs left at x k finding ending e is el er z w h =
       listed n m r entries from xs (Some at) (both (tallied k) (tallied finding.counts)) ending w.ready er (sym z)
       (list_full (subject automaton n) m r entries from xs at x (memory shelf policy s) (memory shelf policy n) (tallied k) (tallied finding.counts) _ (sym w.span_is ∙ is) refl w.walk

@@ -11,8 +11,8 @@ use Rattle.law.specs.Reading.{Unknown, known, built, plain}
 use Rattle.law.proofs.Maps.{some_same}
 use Rattle.law.proofs.Seats.{Seating, seating}
 use Rattle.law.proofs.Readings.{unknown_stays}
-use Rattle.search.specs.declared.searcher.Cursor.{Cursor}
-use Rattle.search.specs.declared.searcher.Move.{Move}
+use Rattle.search.specs.declared.scanner.Cursor.{Cursor}
+use Rattle.search.specs.declared.scanner.Move.{Move}
 use Rattle.search.specs.Counted.{tallied}
 use Rattle.search.specs.Remembered.{no_set, state, lives, Notable, Moved}
 use Rattle.search.proofs.Views.{is_here}

@@ -11,9 +11,9 @@ use Rattle.law.specs.Memory.{Memory, Sound}
 use Rattle.law.specs.Reading.{Counts as Tallies, both, OneRead}
 use Rattle.law.proofs.Readings.{known_read}
 use Rattle.automaton.specs.declared.automaton.Automaton.{Ghosts as AutomatonMeaning}
-use Rattle.search.specs.declared.searcher.Searcher.{Searcher}
-use Rattle.search.specs.declared.searcher.Scan.{Scan}
-use Rattle.search.specs.declared.searcher.Run.{Run}
+use Rattle.search.specs.declared.scanner.Scanner.{Scanner}
+use Rattle.search.specs.declared.scanner.Scan.{Scan}
+use Rattle.search.specs.declared.scanner.Run.{Run}
 use Rattle.search.specs.Counted.{tallied, known_more}
 use Rattle.search.specs.Remembered.{no_set, state, read, memory, subject, Ready}
 use Rattle.search.specs.Scanning.{BackSoFar, Backed, RidingBack, AheadSoFar, Aheaded, RidingAhead}
@@ -40,13 +40,13 @@ none_more k d z = tallies_of (k.reads + d) k.reads (k.known + d) k.known k.built
 
 module _ {M S P Sym : Type 0} (automaton : AutomatonMeaning M Sym) (shelf : ShelfMeaning S) (policy : PolicyMeaning P) (laws : (m : M) → Proper (automaton.subject m)) where
   -- a known step from a live place
-  record Step (s : Searcher M S P) (d : Direction) (p : ℕ) (a : Sym) (t : ℕ) : Type 0 where
+  record Step (s : Scanner M S P) (d : Direction) (p : ℕ) (a : Sym) (t : ℕ) : Type 0 where
     pub one : OneRead (subject automaton s) (memory shelf policy s) (read d (get_or s.sets p no_set) a) (memory shelf policy s) one_known
     pub to : get_or s.sets t no_set ≡ leads (subject automaton s) d (get_or s.sets p no_set) a
     pub on : member s.live t ≡ true
     pub there : (memory shelf policy s).live t ≡ Some (state d (get_or s.sets t no_set))
 
-  step : (s : Searcher M S P) (d : Direction) (p : ℕ) (a : Sym) (c t : ℕ) → Ready automaton shelf policy s → (subject automaton s).fit a ≡ true → c ≡ (subject automaton s).class_of a → Some t ≡ shelf.steps s.shelf p c → (memory shelf policy s).live p ≡ Some (state d (get_or s.sets p no_set)) → Step s d p a t
+  step : (s : Scanner M S P) (d : Direction) (p : ℕ) (a : Sym) (c t : ℕ) → Ready automaton shelf policy s → (subject automaton s).fit a ≡ true → c ≡ (subject automaton s).class_of a → Some t ≡ shelf.steps s.shelf p c → (memory shelf policy s).live p ≡ Some (state d (get_or s.sets p no_set)) → Step s d p a t
   step s d p a c t ready fit cl know here =
       let X = subject automaton s in
       let m = memory shelf policy s in
@@ -61,7 +61,7 @@ module _ {M S P Sym : Type 0} (automaton : AutomatonMeaning M Sym) (shelf : Shel
         there = there ∙ ap (λ x. Some (state d x)) (sym h.holds);
       }
 
-  pub riding_next : (s : Searcher M S P) (m : Memory PositionSet) (r : List Sym) (run run' : Run (Option ℕ)) (k kk : Tallies) (a : Sym) (c t : ℕ) (b : Bool) → run.at ≡ run'.at + 1 → run'.at < length r → a ≡ get_or r run'.at a → (subject automaton s).fit a ≡ true → c ≡ (subject automaton s).class_of a → Some t ≡ shelf.steps s.shelf run.place c → run'.place ≡ t → b ≡ member s.begins t → run'.mark ≡ cond b (Some run'.at) run.mark → kk ≡ both k one_known → RidingBack automaton shelf policy m r run k s → RidingBack automaton shelf policy m r run' kk s
+  pub riding_next : (s : Scanner M S P) (m : Memory PositionSet) (r : List Sym) (run run' : Run (Option ℕ)) (k kk : Tallies) (a : Sym) (c t : ℕ) (b : Bool) → run.at ≡ run'.at + 1 → run'.at < length r → a ≡ get_or r run'.at a → (subject automaton s).fit a ≡ true → c ≡ (subject automaton s).class_of a → Some t ≡ shelf.steps s.shelf run.place c → run'.place ≡ t → b ≡ member s.begins t → run'.mark ≡ cond b (Some run'.at) run.mark → kk ≡ both k one_known → RidingBack automaton shelf policy m r run k s → RidingBack automaton shelf policy m r run' kk s
   riding_next s m r run run' k kk a c t b e l is fit cl know to f o z h =
       let X = subject automaton s in
       let n = memory shelf policy s in
@@ -75,7 +75,7 @@ module _ {M S P Sym : Type 0} (automaton : AutomatonMeaning M Sym) (shelf : Shel
       }
 
   -- a run from a scan, and a scan from a run
-  pub riding_from : (s : Searcher M S P) (m : Memory PositionSet) (r : List Sym) (scan : Scan (Option ℕ)) (run : Run (Option ℕ)) (p : ℕ) → scan.cursor.place ≡ Some p → run.place ≡ p → run.at ≡ scan.at → run.mark ≡ scan.mark → Backed automaton shelf policy m r scan s → RidingBack automaton shelf policy m r run (tallied scan.counts) s
+  pub riding_from : (s : Scanner M S P) (m : Memory PositionSet) (r : List Sym) (scan : Scan (Option ℕ)) (run : Run (Option ℕ)) (p : ℕ) → scan.cursor.place ≡ Some p → run.place ≡ p → run.at ≡ scan.at → run.mark ≡ scan.mark → Backed automaton shelf policy m r scan s → RidingBack automaton shelf policy m r run (tallied scan.counts) s
   riding_from s m r scan run p is at_place at st h =
       let X = subject automaton s in
       let n = memory shelf policy s in
@@ -90,7 +90,7 @@ module _ {M S P Sym : Type 0} (automaton : AutomatonMeaning M Sym) (shelf : Shel
             (subst (λ y. BackSoFar X m r scan.at scan.cursor.set y n (tallied scan.counts)) (sym st) h.so_far)));
       }
 
-  pub backed_from : (s : Searcher M S P) (q : P) (m : Memory PositionSet) (r : List Sym) (scan : Scan (Option ℕ)) (run : Run (Option ℕ)) (k : Tallies) → policy.live q ≡ policy.live s.policy → scan.cursor.set ≡ get_or s.sets run.place no_set → scan.cursor.place ≡ Some run.place → scan.at ≡ run.at → scan.mark ≡ run.mark → tallied scan.counts ≡ k → RidingBack automaton shelf policy m r run k s → Backed automaton shelf policy m r scan (with_policy s q)
+  pub backed_from : (s : Scanner M S P) (q : P) (m : Memory PositionSet) (r : List Sym) (scan : Scan (Option ℕ)) (run : Run (Option ℕ)) (k : Tallies) → policy.live q ≡ policy.live s.policy → scan.cursor.set ≡ get_or s.sets run.place no_set → scan.cursor.place ≡ Some run.place → scan.at ≡ run.at → scan.mark ≡ run.mark → tallied scan.counts ≡ k → RidingBack automaton shelf policy m r run k s → Backed automaton shelf policy m r scan (with_policy s q)
   backed_from s q m r scan run k told set place at st z h =
       let X = subject automaton s in
       let n = memory shelf policy s in
@@ -108,7 +108,7 @@ module _ {M S P Sym : Type 0} (automaton : AutomatonMeaning M Sym) (shelf : Shel
             (subst (λ y. BackSoFar X m r run.at (get_or s.sets run.place no_set) y n k) (sym st) h.so_far))));
       }
 
-  pub riding_ahead_next : (s : Searcher M S P) (m : Memory PositionSet) (r : List Sym) (from : ℕ) (run run' : Run ℕ) (k kk : Tallies) (a : Sym) (c t : ℕ) (b : Bool) → run'.at ≡ run.at + 1 → run.at < length r → member s.empties run.place ≡ false → a ≡ get_or r run.at a → (subject automaton s).fit a ≡ true → c ≡ (subject automaton s).class_of a → Some t ≡ shelf.steps s.shelf run.place c → run'.place ≡ t → b ≡ member s.ends t → run'.mark ≡ cond b (run.at + 1) run.mark → kk ≡ both k one_known → RidingAhead automaton shelf policy m r from run k s → RidingAhead automaton shelf policy m r from run' kk s
+  pub riding_ahead_next : (s : Scanner M S P) (m : Memory PositionSet) (r : List Sym) (from : ℕ) (run run' : Run ℕ) (k kk : Tallies) (a : Sym) (c t : ℕ) (b : Bool) → run'.at ≡ run.at + 1 → run.at < length r → member s.empties run.place ≡ false → a ≡ get_or r run.at a → (subject automaton s).fit a ≡ true → c ≡ (subject automaton s).class_of a → Some t ≡ shelf.steps s.shelf run.place c → run'.place ≡ t → b ≡ member s.ends t → run'.mark ≡ cond b (run.at + 1) run.mark → kk ≡ both k one_known → RidingAhead automaton shelf policy m r from run k s → RidingAhead automaton shelf policy m r from run' kk s
   riding_ahead_next s m r from run run' k kk a c t b e l live is fit cl know to f o z h =
       let X = subject automaton s in
       let n = memory shelf policy s in
@@ -126,7 +126,7 @@ module _ {M S P Sym : Type 0} (automaton : AutomatonMeaning M Sym) (shelf : Shel
             (subst (λ y. AheadSoFar X m r from y (get_or s.sets t no_set) (cond b (run.at + 1) run.mark) n kk) (sym e) next));
       }
 
-  pub riding_ahead_from : (s : Searcher M S P) (m : Memory PositionSet) (r : List Sym) (from : ℕ) (scan : Scan ℕ) (run : Run ℕ) (p : ℕ) → scan.cursor.place ≡ Some p → run.place ≡ p → run.at ≡ scan.at → run.mark ≡ scan.mark → Aheaded automaton shelf policy m r from scan s → RidingAhead automaton shelf policy m r from run (tallied scan.counts) s
+  pub riding_ahead_from : (s : Scanner M S P) (m : Memory PositionSet) (r : List Sym) (from : ℕ) (scan : Scan ℕ) (run : Run ℕ) (p : ℕ) → scan.cursor.place ≡ Some p → run.place ≡ p → run.at ≡ scan.at → run.mark ≡ scan.mark → Aheaded automaton shelf policy m r from scan s → RidingAhead automaton shelf policy m r from run (tallied scan.counts) s
   riding_ahead_from s m r from scan run p is at_place at st h =
       let X = subject automaton s in
       let n = memory shelf policy s in
@@ -141,7 +141,7 @@ module _ {M S P Sym : Type 0} (automaton : AutomatonMeaning M Sym) (shelf : Shel
             (subst (λ y. AheadSoFar X m r from scan.at scan.cursor.set y n (tallied scan.counts)) (sym st) h.so_far)));
       }
 
-  pub aheaded_from : (s : Searcher M S P) (q : P) (m : Memory PositionSet) (r : List Sym) (from : ℕ) (scan : Scan ℕ) (run : Run ℕ) (k : Tallies) → policy.live q ≡ policy.live s.policy → scan.cursor.set ≡ get_or s.sets run.place no_set → scan.cursor.place ≡ Some run.place → scan.at ≡ run.at → scan.mark ≡ run.mark → tallied scan.counts ≡ k → RidingAhead automaton shelf policy m r from run k s → Aheaded automaton shelf policy m r from scan (with_policy s q)
+  pub aheaded_from : (s : Scanner M S P) (q : P) (m : Memory PositionSet) (r : List Sym) (from : ℕ) (scan : Scan ℕ) (run : Run ℕ) (k : Tallies) → policy.live q ≡ policy.live s.policy → scan.cursor.set ≡ get_or s.sets run.place no_set → scan.cursor.place ≡ Some run.place → scan.at ≡ run.at → scan.mark ≡ run.mark → tallied scan.counts ≡ k → RidingAhead automaton shelf policy m r from run k s → Aheaded automaton shelf policy m r from scan (with_policy s q)
   aheaded_from s q m r from scan run k told set place at st z h =
       let X = subject automaton s in
       let n = memory shelf policy s in

@@ -16,9 +16,9 @@ use Rattle.law.specs.Reading.{Counts as Tallies, zeros, both, OneRead, Walk}
 use Rattle.law.proofs.Readings.{reading}
 use Rattle.law.proofs.Walks.{walk_snoc}
 use Rattle.automaton.specs.declared.automaton.Automaton.{Ghosts as AutomatonMeaning}
-use Rattle.search.specs.declared.searcher.Searcher.{Searcher}
-use Rattle.search.specs.declared.searcher.Scan.{Scan}
-use Rattle.search.specs.declared.searcher.Move.{Move}
+use Rattle.search.specs.declared.scanner.Scanner.{Scanner}
+use Rattle.search.specs.declared.scanner.Scan.{Scan}
+use Rattle.search.specs.declared.scanner.Move.{Move}
 use Rattle.search.specs.Counted.{tallied}
 use Rattle.search.specs.Remembered.{read, memory, subject, Flagged, Ready, Kept, At, Moved}
 use Rattle.search.specs.Scanning.{BackSoFar, Backed, AheadSoFar, Aheaded, Reached}
@@ -130,7 +130,7 @@ module _ {Sym : Type 0} (X : Subject Sym PositionSet) where
 
 module _ {M S P Sym : Type 0} (automaton : AutomatonMeaning M Sym) (shelf : ShelfMeaning S) (policy : PolicyMeaning P) (laws : (m : M) → Proper (automaton.subject m)) where
   -- a searcher stays ready
-  pub ready_next : (s s' : Searcher M S P) → Ready automaton shelf policy s → Kept automaton shelf s s' → Sound (subject automaton s) (memory shelf policy s') → Ready automaton shelf policy s'
+  pub ready_next : (s s' : Scanner M S P) → Ready automaton shelf policy s → Kept automaton shelf s s' → Sound (subject automaton s) (memory shelf policy s') → Ready automaton shelf policy s'
   ready_next s s' r k ok =
       record {
         sound = subst (λ y. Sound (automaton.subject y.now) (memory shelf policy s')) (sym k.automaton_same) ok;
@@ -138,7 +138,7 @@ module _ {M S P Sym : Type 0} (automaton : AutomatonMeaning M Sym) (shelf : Shel
         flags = subst (λ y. Flagged (automaton.subject y.now).machine s') (sym k.automaton_same) (k.flags r.flags);
       }
 
-  pub backed_begun : (s : Searcher M S P) (r : List Sym) (scan : Scan (Option ℕ)) → Ready automaton shelf policy s → scan.at ≡ length r → scan.cursor.set ≡ (subject automaton s).machine.begin → scan.cursor.place ≡ None → scan.mark ≡ None → tallied scan.counts ≡ zeros → Backed automaton shelf policy (memory shelf policy s) r scan s
+  pub backed_begun : (s : Scanner M S P) (r : List Sym) (scan : Scan (Option ℕ)) → Ready automaton shelf policy s → scan.at ≡ length r → scan.cursor.set ≡ (subject automaton s).machine.begin → scan.cursor.place ≡ None → scan.mark ≡ None → tallied scan.counts ≡ zeros → Backed automaton shelf policy (memory shelf policy s) r scan s
   backed_begun s r scan ready e b p o z =
       record {
         ready = ready;
@@ -149,7 +149,7 @@ module _ {M S P Sym : Type 0} (automaton : AutomatonMeaning M Sym) (shelf : Shel
       none_some : (q : ℕ) → None ≡ Some q → ⊥
       none_some q h = let z : ◌≡◌ {A = ℕ} 0 1 = cc in omega arith
 
-  pub backed_next : (s s' : Searcher M S P) (m : Memory PositionSet) (r : List Sym) (scan scan' : Scan (Option ℕ)) (a : Sym) (move : Move) (b : Bool) → Kept automaton shelf s s' → scan.at ≡ scan'.at + 1 → scan'.at < length r → a ≡ get_or r scan'.at a → (Ready automaton shelf policy s → At Back (memory shelf policy s) scan.cursor → Moved (subject automaton s) (memory shelf policy s) Back scan.cursor.set a (memory shelf policy s') move) → scan'.cursor ≡ move.cursor → b ≡ (subject automaton s').machine.first move.cursor.set → scan'.mark ≡ cond b (Some scan'.at) scan.mark → tallied scan'.counts ≡ both (tallied scan.counts) (tallied move.counts) → Backed automaton shelf policy m r scan s → Backed automaton shelf policy m r scan' s'
+  pub backed_next : (s s' : Scanner M S P) (m : Memory PositionSet) (r : List Sym) (scan scan' : Scan (Option ℕ)) (a : Sym) (move : Move) (b : Bool) → Kept automaton shelf s s' → scan.at ≡ scan'.at + 1 → scan'.at < length r → a ≡ get_or r scan'.at a → (Ready automaton shelf policy s → At Back (memory shelf policy s) scan.cursor → Moved (subject automaton s) (memory shelf policy s) Back scan.cursor.set a (memory shelf policy s') move) → scan'.cursor ≡ move.cursor → b ≡ (subject automaton s').machine.first move.cursor.set → scan'.mark ≡ cond b (Some scan'.at) scan.mark → tallied scan'.counts ≡ both (tallied scan.counts) (tallied move.counts) → Backed automaton shelf policy m r scan s → Backed automaton shelf policy m r scan' s'
   backed_next s s' m r scan scan' a move b k e l is go cur f o z h =
       let X = subject automaton s in
       let law : Proper X = laws s.automaton.now in
@@ -167,7 +167,7 @@ module _ {M S P Sym : Type 0} (automaton : AutomatonMeaning M Sym) (shelf : Shel
             (subst (λ y. BackSoFar X m r scan'.at move.cursor.set y n' (tallied scan'.counts)) (sym o) far));
       }
 
-  pub aheaded_begun : (s : Searcher M S P) (r : List Sym) (from : ℕ) (scan : Scan ℕ) → Ready automaton shelf policy s → scan.at ≡ from → scan.mark ≡ from → scan.cursor.set ≡ (subject automaton s).machine.begin → scan.cursor.place ≡ None → tallied scan.counts ≡ zeros → Aheaded automaton shelf policy (memory shelf policy s) r from scan s
+  pub aheaded_begun : (s : Scanner M S P) (r : List Sym) (from : ℕ) (scan : Scan ℕ) → Ready automaton shelf policy s → scan.at ≡ from → scan.mark ≡ from → scan.cursor.set ≡ (subject automaton s).machine.begin → scan.cursor.place ≡ None → tallied scan.counts ≡ zeros → Aheaded automaton shelf policy (memory shelf policy s) r from scan s
   aheaded_begun s r from scan ready e f b p z =
       let X = subject automaton s in
       let m = memory shelf policy s in
@@ -181,7 +181,7 @@ module _ {M S P Sym : Type 0} (automaton : AutomatonMeaning M Sym) (shelf : Shel
       none_some : (q : ℕ) → None ≡ Some q → ⊥
       none_some q h = let z : ◌≡◌ {A = ℕ} 0 1 = cc in omega arith
 
-  pub aheaded_next : (s s' : Searcher M S P) (m : Memory PositionSet) (r : List Sym) (from : ℕ) (scan scan' : Scan ℕ) (a : Sym) (move : Move) (l : Bool) → Kept automaton shelf s s' → scan'.at ≡ scan.at + 1 → scan.at < length r → a ≡ get_or r scan.at a → (Ready automaton shelf policy s → At Ahead (memory shelf policy s) scan.cursor → Moved (subject automaton s) (memory shelf policy s) Ahead scan.cursor.set a (memory shelf policy s') move) → scan'.cursor ≡ move.cursor → l ≡ (subject automaton s').machine.last move.cursor.set → scan'.mark ≡ cond l (scan.at + 1) scan.mark → tallied scan'.counts ≡ both (tallied scan.counts) (tallied move.counts) → (subject automaton s).machine.empty scan.cursor.set ≡ false → Aheaded automaton shelf policy m r from scan s → Aheaded automaton shelf policy m r from scan' s'
+  pub aheaded_next : (s s' : Scanner M S P) (m : Memory PositionSet) (r : List Sym) (from : ℕ) (scan scan' : Scan ℕ) (a : Sym) (move : Move) (l : Bool) → Kept automaton shelf s s' → scan'.at ≡ scan.at + 1 → scan.at < length r → a ≡ get_or r scan.at a → (Ready automaton shelf policy s → At Ahead (memory shelf policy s) scan.cursor → Moved (subject automaton s) (memory shelf policy s) Ahead scan.cursor.set a (memory shelf policy s') move) → scan'.cursor ≡ move.cursor → l ≡ (subject automaton s').machine.last move.cursor.set → scan'.mark ≡ cond l (scan.at + 1) scan.mark → tallied scan'.counts ≡ both (tallied scan.counts) (tallied move.counts) → (subject automaton s).machine.empty scan.cursor.set ≡ false → Aheaded automaton shelf policy m r from scan s → Aheaded automaton shelf policy m r from scan' s'
   aheaded_next s s' m r from scan scan' a move l k e lt is go cur f o z live h =
       let X = subject automaton s in
       let law : Proper X = laws s.automaton.now in
@@ -200,7 +200,7 @@ module _ {M S P Sym : Type 0} (automaton : AutomatonMeaning M Sym) (shelf : Shel
             (subst (λ y. AheadSoFar X m r from y move.cursor.set (cond l (scan.at + 1) scan.mark) n' (tallied scan'.counts)) (sym e) next)));
       }
 
-  pub reached : (s : Searcher M S P) (m : Memory PositionSet) (r : List Sym) (from : ℕ) (scan : Scan ℕ) → scan.at ≤ length r → (ltb scan.at (length r) && not ((subject automaton s).machine.empty scan.cursor.set)) ≡ false → Aheaded automaton shelf policy m r from scan s → Reached automaton shelf policy m r from scan s
+  pub reached : (s : Scanner M S P) (m : Memory PositionSet) (r : List Sym) (from : ℕ) (scan : Scan ℕ) → scan.at ≤ length r → (ltb scan.at (length r) && not ((subject automaton s).machine.empty scan.cursor.set)) ≡ false → Aheaded automaton shelf policy m r from scan s → Reached automaton shelf policy m r from scan s
   reached s m r from scan l e h =
       let o = ahead_over (subject automaton s) m r from scan.at scan.cursor.set scan.mark (memory shelf policy s) (tallied scan.counts) l e h.so_far in
       record { ready = h.ready; walk = o.walk; end_is = o.end_is }

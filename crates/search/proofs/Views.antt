@@ -18,7 +18,7 @@ use Rattle.law.specs.Memory.{Memory, taken, held_places}
 use Rattle.law.proofs.Maps.{some_not, some_same}
 use Rattle.law.proofs.Tally.{tally_same}
 use Rattle.automaton.specs.declared.automaton.Automaton.{Ghosts as AutomatonMeaning}
-use Rattle.search.specs.declared.searcher.Searcher.{Searcher}
+use Rattle.search.specs.declared.scanner.Scanner.{Scanner}
 use Rattle.search.specs.Remembered.{heading, backward, no_set, state, lives, memory, marked, Flagged, Kept}
 
 memory_of : (l l' : ℕ → Option (State PositionSet)) (f f' : Map) (t t' : Members) (a a' b b' c c' : ℕ) → l ≡ l' → f ≡ f' → t ≡ t' → a ≡ a' → b ≡ b' → c ≡ c' → ◌≡◌ {A = Memory PositionSet} (record { live = l; known = f; told = t; limit = a; places = b; capacity = c }) (record { live = l'; known = f'; told = t'; limit = a'; places = b'; capacity = c' })
@@ -123,7 +123,7 @@ pub less_out : (f x : Members) (k : ℕ) → x k ≡ true → less f x k ≡ fal
 less_out f x k h = ap (λ y. f k && not y) h ∙ and_false (f k)
 
 -- what is kept over two changes is kept over both
-pub kept_then : {M S P Sym : Type 0} (automaton : AutomatonMeaning M Sym) (shelf : ShelfMeaning S) (a b c : Searcher M S P) → Kept automaton shelf a b → Kept automaton shelf b c → Kept automaton shelf a c
+pub kept_then : {M S P Sym : Type 0} (automaton : AutomatonMeaning M Sym) (shelf : ShelfMeaning S) (a b c : Scanner M S P) → Kept automaton shelf a b → Kept automaton shelf b c → Kept automaton shelf a c
 kept_then automaton shelf a b c k l =
     record {
       automaton_same = l.automaton_same ∙ k.automaton_same;
@@ -131,28 +131,28 @@ kept_then automaton shelf a b c k l =
       flags = λ h. subst (λ y. Flagged (automaton.subject y.now).machine b → Flagged (automaton.subject y.now).machine c) k.automaton_same l.flags (k.flags h);
     }
 
-pub kept_same : {M S P Sym : Type 0} (automaton : AutomatonMeaning M Sym) (shelf : ShelfMeaning S) (a b : Searcher M S P) → b ≡ a → Kept automaton shelf a b
+pub kept_same : {M S P Sym : Type 0} (automaton : AutomatonMeaning M Sym) (shelf : ShelfMeaning S) (a b : Scanner M S P) → b ≡ a → Kept automaton shelf a b
 kept_same automaton shelf a b e =
     subst (λ y. Kept automaton shelf a y) (sym e) (record { automaton_same = refl; counts = λ h. h; flags = λ h. h })
 
 -- a policy that was asked or touched
-abbrev pub with_policy : {M S P : Type 0} → Searcher M S P → P → Searcher M S P
+abbrev pub with_policy : {M S P : Type 0} → Scanner M S P → P → Scanner M S P
 with_policy s q =
     record { automaton = s.automaton; shelf = s.shelf; policy = q; sets = s.sets; live = s.live; back = s.back; begins = s.begins; ends = s.ends; empties = s.empties; limit = s.limit }
 
-pub kept_policy : {M S P Sym : Type 0} (automaton : AutomatonMeaning M Sym) (shelf : ShelfMeaning S) (s : Searcher M S P) (q : P) → Kept automaton shelf s (with_policy s q)
+pub kept_policy : {M S P Sym : Type 0} (automaton : AutomatonMeaning M Sym) (shelf : ShelfMeaning S) (s : Scanner M S P) (q : P) → Kept automaton shelf s (with_policy s q)
 kept_policy automaton shelf s q =
     record { automaton_same = refl; counts = λ h. h; flags = λ f. record { begins = f.begins; ends = f.ends; empties = f.empties } }
 
-pub told_policy : {M S P : Type 0} (shelf : ShelfMeaning S) (policy : PolicyMeaning P) (s : Searcher M S P) (q : P) → policy.live q ≡ policy.live s.policy → memory shelf policy (with_policy s q) ≡ memory shelf policy s
+pub told_policy : {M S P : Type 0} (shelf : ShelfMeaning S) (policy : PolicyMeaning P) (s : Scanner M S P) (q : P) → policy.live q ≡ policy.live s.policy → memory shelf policy (with_policy s q) ≡ memory shelf policy s
 told_policy shelf policy s q e = same_memory (memory shelf policy (with_policy s q)) (memory shelf policy s) refl refl e refl refl refl
 
 -- another shelf
-abbrev pub with_shelf : {M S P : Type 0} → Searcher M S P → S → Searcher M S P
+abbrev pub with_shelf : {M S P : Type 0} → Scanner M S P → S → Scanner M S P
 with_shelf s q =
     record { automaton = s.automaton; shelf = q; policy = s.policy; sets = s.sets; live = s.live; back = s.back; begins = s.begins; ends = s.ends; empties = s.empties; limit = s.limit }
 
-pub kept_shelf : {M S P Sym : Type 0} (automaton : AutomatonMeaning M Sym) (shelf : ShelfMeaning S) (s : Searcher M S P) (q : S) → (shelf.sound s.shelf → shelf.sound q) → Kept automaton shelf s (with_shelf s q)
+pub kept_shelf : {M S P Sym : Type 0} (automaton : AutomatonMeaning M Sym) (shelf : ShelfMeaning S) (s : Scanner M S P) (q : S) → (shelf.sound s.shelf → shelf.sound q) → Kept automaton shelf s (with_shelf s q)
 kept_shelf automaton shelf s q e =
     record { automaton_same = refl; counts = e; flags = λ f. record { begins = f.begins; ends = f.ends; empties = f.empties } }
 
@@ -163,11 +163,11 @@ same_bool false true e = absurd (both_ways true e refl)
 same_bool false false e = refl
 
 -- another limit
-abbrev pub with_most : {M S P : Type 0} → Searcher M S P → ℕ → Searcher M S P
+abbrev pub with_most : {M S P : Type 0} → Scanner M S P → ℕ → Scanner M S P
 with_most s l =
     record { automaton = s.automaton; shelf = s.shelf; policy = s.policy; sets = s.sets; live = s.live; back = s.back; begins = s.begins; ends = s.ends; empties = s.empties; limit = l }
 
-pub kept_limit : {M S P Sym : Type 0} (automaton : AutomatonMeaning M Sym) (shelf : ShelfMeaning S) (s : Searcher M S P) (l : ℕ) → Kept automaton shelf s (with_most s l)
+pub kept_limit : {M S P Sym : Type 0} (automaton : AutomatonMeaning M Sym) (shelf : ShelfMeaning S) (s : Scanner M S P) (l : ℕ) → Kept automaton shelf s (with_most s l)
 kept_limit automaton shelf s l =
     record { automaton_same = refl; counts = λ h. h; flags = λ f. record { begins = f.begins; ends = f.ends; empties = f.empties } }
 

@@ -7,7 +7,7 @@ use Rattle.theory.specs.declared.Span.{Span}
 use Rattle.law.specs.Calls.{Request, Searched, Found as Finds, Listed as Lists, Told, Refused as Refuses, Answered}
 use Rattle.law.specs.Calls.{Answer as Reply}
 use Rattle.automaton.specs.declared.automaton.Automaton.{Ghosts as AutomatonMeaning}
-use Rattle.search.specs.declared.searcher.Searcher.{Searcher}
+use Rattle.search.specs.declared.scanner.Scanner.{Scanner}
 use Rattle.search.specs.declared.answer.Found.{Found}
 use Rattle.search.specs.declared.answer.Listed.{Listed}
 use Rattle.search.specs.declared.answer.Whole.{Whole}
@@ -35,6 +35,6 @@ written (Ok x) = x.written
 written (Err q) = 0
 
 -- the call was answered as the law has it, and the searcher is ready for the next
-pub record Did {M S P Sym : Type 0} (automaton : AutomatonMeaning M Sym) (shelf : ShelfMeaning S) (policy : PolicyMeaning P) (before : Searcher M S P) (c : Request Sym) (after : Searcher M S P) (a : Reply) : Type 0 where
+pub record Did {M S P Sym : Type 0} (automaton : AutomatonMeaning M Sym) (shelf : ShelfMeaning S) (policy : PolicyMeaning P) (before : Scanner M S P) (c : Request Sym) (after : Scanner M S P) (a : Reply) : Type 0 where
   pub answered : Answered (subject automaton before) (memory shelf policy before) c (memory shelf policy after) a
   pub ready : Ready automaton shelf policy after

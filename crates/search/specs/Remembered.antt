@@ -14,10 +14,10 @@ use Rattle.law.specs.Subject.{Subject, leads}
 use Rattle.law.specs.Memory.{Memory, Seated, Sound}
 use Rattle.law.specs.Reading.{Unknown, OneRead}
 use Rattle.automaton.specs.declared.automaton.Automaton.{Ghosts as AutomatonMeaning}
-use Rattle.search.specs.declared.searcher.Searcher.{Searcher}
-use Rattle.search.specs.declared.searcher.Cursor.{Cursor}
-use Rattle.search.specs.declared.searcher.Move.{Move}
-use Rattle.search.specs.declared.searcher.Seating.{Seating}
+use Rattle.search.specs.declared.scanner.Scanner.{Scanner}
+use Rattle.search.specs.declared.scanner.Cursor.{Cursor}
+use Rattle.search.specs.declared.scanner.Move.{Move}
+use Rattle.search.specs.declared.scanner.Seating.{Seating}
 use Rattle.search.specs.Counted.{tallied}
 
 abbrev pub heading : Bool → Direction
@@ -41,7 +41,7 @@ read d set a = record { direction = d; set = set; symbol = a }
 abbrev pub lives : Members → List PositionSet → Members → ℕ → Option (State PositionSet)
 lives live sets back = λ p. cond (live p) (Some (state (heading (back p)) (slice_index_or sets p no_set))) None
 
-abbrev pub memory : {M S P : Type 0} → ShelfMeaning S → PolicyMeaning P → Searcher M S P → Memory PositionSet
+abbrev pub memory : {M S P : Type 0} → ShelfMeaning S → PolicyMeaning P → Scanner M S P → Memory PositionSet
 memory shelf policy s =
     record {
       live = lives (member s.live) s.sets (member s.back);
@@ -53,11 +53,11 @@ memory shelf policy s =
     }
 
 -- what it searches for
-abbrev pub subject : {M S P Sym : Type 0} → AutomatonMeaning M Sym → Searcher M S P → Subject Sym PositionSet
+abbrev pub subject : {M S P Sym : Type 0} → AutomatonMeaning M Sym → Scanner M S P → Subject Sym PositionSet
 subject automaton s = automaton.subject s.automaton.now
 
 -- the set is live at the place, for the direction
-abbrev pub SeatedAt : {M S P : Type 0} → Searcher M S P → PositionSet → Direction → ℕ → Type 0
+abbrev pub SeatedAt : {M S P : Type 0} → Scanner M S P → PositionSet → Direction → ℕ → Type 0
 SeatedAt s set d p = (member s.live p ≡ true) × (slice_index_or s.sets p no_set ≡ set) × (member s.back p ≡ backward d)
 
 -- the flag of a place is put to b
@@ -65,19 +65,19 @@ abbrev pub marked : Members → ℕ → Bool → Members
 marked f p b = λ k. cond (k == p) b (f k)
 
 -- the flags of live places say of their sets what the pattern says
-pub record Flagged {M S P Sym : Type 0} (m : Machine Sym PositionSet) (s : Searcher M S P) : Type 0 where
+pub record Flagged {M S P Sym : Type 0} (m : Machine Sym PositionSet) (s : Scanner M S P) : Type 0 where
   pub begins : (p : ℕ) → member s.live p ≡ true → member s.begins p ≡ m.first (slice_index_or s.sets p no_set)
   pub ends : (p : ℕ) → member s.live p ≡ true → member s.ends p ≡ m.last (slice_index_or s.sets p no_set)
   pub empties : (p : ℕ) → member s.live p ≡ true → member s.empties p ≡ m.empty (slice_index_or s.sets p no_set)
 
 -- what holds of a searcher from its opening on
-pub record Ready {M S P Sym : Type 0} (automaton : AutomatonMeaning M Sym) (shelf : ShelfMeaning S) (policy : PolicyMeaning P) (s : Searcher M S P) : Type 0 where
+pub record Ready {M S P Sym : Type 0} (automaton : AutomatonMeaning M Sym) (shelf : ShelfMeaning S) (policy : PolicyMeaning P) (s : Scanner M S P) : Type 0 where
   pub sound : Sound (subject automaton s) (memory shelf policy s)
   pub counts : shelf.sound s.shelf
   pub flags : Flagged (subject automaton s).machine s
 
 -- what every change of a searcher keeps, beside its memory
-pub record Kept {M S P Sym : Type 0} (automaton : AutomatonMeaning M Sym) (shelf : ShelfMeaning S) (before after : Searcher M S P) : Type 0 where
+pub record Kept {M S P Sym : Type 0} (automaton : AutomatonMeaning M Sym) (shelf : ShelfMeaning S) (before after : Scanner M S P) : Type 0 where
   pub automaton_same : after.automaton ≡ before.automaton
   pub counts : shelf.sound before.shelf → shelf.sound after.shelf
   pub flags : Flagged (subject automaton before).machine before → Flagged (subject automaton before).machine after

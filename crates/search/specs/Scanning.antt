@@ -12,9 +12,9 @@ use Rattle.law.specs.Subject.{Subject}
 use Rattle.law.specs.Memory.{Memory}
 use Rattle.law.specs.Reading.{Counts as Tallies, Walk}
 use Rattle.automaton.specs.declared.automaton.Automaton.{Ghosts as AutomatonMeaning}
-use Rattle.search.specs.declared.searcher.Searcher.{Searcher}
-use Rattle.search.specs.declared.searcher.Scan.{Scan}
-use Rattle.search.specs.declared.searcher.Run.{Run}
+use Rattle.search.specs.declared.scanner.Scanner.{Scanner}
+use Rattle.search.specs.declared.scanner.Scan.{Scan}
+use Rattle.search.specs.declared.scanner.Run.{Run}
 use Rattle.search.specs.declared.answer.Found.{Found}
 use Rattle.search.specs.declared.answer.Listed.{Listed}
 use Rattle.search.specs.declared.counts.Counts.{Counts}
@@ -27,13 +27,13 @@ pub record BackSoFar {Sym : Type 0} (X : Subject Sym PositionSet) (m : Memory Po
   pub start_is : o ≡ start X.machine at (drop at r)
   pub walk : Walk X m (back_reads X.machine (drop at r)) n k
 
-pub record Backed {M S P Sym : Type 0} (automaton : AutomatonMeaning M Sym) (shelf : ShelfMeaning S) (policy : PolicyMeaning P) (m : Memory PositionSet) (r : List Sym) (scan : Scan (Option ℕ)) (s : Searcher M S P) : Type 0 where
+pub record Backed {M S P Sym : Type 0} (automaton : AutomatonMeaning M Sym) (shelf : ShelfMeaning S) (policy : PolicyMeaning P) (m : Memory PositionSet) (r : List Sym) (scan : Scan (Option ℕ)) (s : Scanner M S P) : Type 0 where
   pub ready : Ready automaton shelf policy s
   pub held : At Back (memory shelf policy s) scan.cursor
   pub so_far : BackSoFar (subject automaton s) m r scan.at scan.cursor.set scan.mark (memory shelf policy s) (tallied scan.counts)
 
 -- the same of a run over known steps, whose set stands at its place
-pub record RidingBack {M S P Sym : Type 0} (automaton : AutomatonMeaning M Sym) (shelf : ShelfMeaning S) (policy : PolicyMeaning P) (m : Memory PositionSet) (r : List Sym) (run : Run (Option ℕ)) (k : Tallies) (s : Searcher M S P) : Type 0 where
+pub record RidingBack {M S P Sym : Type 0} (automaton : AutomatonMeaning M Sym) (shelf : ShelfMeaning S) (policy : PolicyMeaning P) (m : Memory PositionSet) (r : List Sym) (run : Run (Option ℕ)) (k : Tallies) (s : Scanner M S P) : Type 0 where
   pub ready : Ready automaton shelf policy s
   pub held : (memory shelf policy s).live run.place ≡ Some (state Back (slice_index_or s.sets run.place no_set))
   pub so_far : BackSoFar (subject automaton s) m r run.at (slice_index_or s.sets run.place no_set) run.mark (memory shelf policy s) k
@@ -52,13 +52,13 @@ pub record AheadSoFar {Sym : Type 0} (X : Subject Sym PositionSet) (m : Memory P
   pub rest : ahead_reads X.machine X.machine.begin (drop from r) ≡ done ++ cond (X.machine.empty S) [] (ahead_reads X.machine S (drop at r))
   pub end_is : far X.machine from from X.machine.begin (drop from r) ≡ cond (X.machine.empty S) end (far X.machine end at S (drop at r))
 
-pub record Aheaded {M S P Sym : Type 0} (automaton : AutomatonMeaning M Sym) (shelf : ShelfMeaning S) (policy : PolicyMeaning P) (m : Memory PositionSet) (r : List Sym) (from : ℕ) (scan : Scan ℕ) (s : Searcher M S P) : Type 0 where
+pub record Aheaded {M S P Sym : Type 0} (automaton : AutomatonMeaning M Sym) (shelf : ShelfMeaning S) (policy : PolicyMeaning P) (m : Memory PositionSet) (r : List Sym) (from : ℕ) (scan : Scan ℕ) (s : Scanner M S P) : Type 0 where
   pub ready : Ready automaton shelf policy s
   pub held : At Ahead (memory shelf policy s) scan.cursor
   pub so_far : AheadSoFar (subject automaton s) m r from scan.at scan.cursor.set scan.mark (memory shelf policy s) (tallied scan.counts)
 
 -- the same of a run over known steps, whose set stands at its place
-pub record RidingAhead {M S P Sym : Type 0} (automaton : AutomatonMeaning M Sym) (shelf : ShelfMeaning S) (policy : PolicyMeaning P) (m : Memory PositionSet) (r : List Sym) (from : ℕ) (run : Run ℕ) (k : Tallies) (s : Searcher M S P) : Type 0 where
+pub record RidingAhead {M S P Sym : Type 0} (automaton : AutomatonMeaning M Sym) (shelf : ShelfMeaning S) (policy : PolicyMeaning P) (m : Memory PositionSet) (r : List Sym) (from : ℕ) (run : Run ℕ) (k : Tallies) (s : Scanner M S P) : Type 0 where
   pub ready : Ready automaton shelf policy s
   pub held : (memory shelf policy s).live run.place ≡ Some (state Ahead (slice_index_or s.sets run.place no_set))
   pub so_far : AheadSoFar (subject automaton s) m r from run.at (slice_index_or s.sets run.place no_set) run.mark (memory shelf policy s) k
@@ -70,13 +70,13 @@ pub record AheadWithin (n : ℕ) (scan : Scan ℕ) : Type 0 where
   pub counts : Bounded scan.at scan.counts
 
 -- a scan ahead is over: its reads are those of the definition, and so is the end
-pub record Reached {M S P Sym : Type 0} (automaton : AutomatonMeaning M Sym) (shelf : ShelfMeaning S) (policy : PolicyMeaning P) (m : Memory PositionSet) (r : List Sym) (from : ℕ) (scan : Scan ℕ) (s : Searcher M S P) : Type 0 where
+pub record Reached {M S P Sym : Type 0} (automaton : AutomatonMeaning M Sym) (shelf : ShelfMeaning S) (policy : PolicyMeaning P) (m : Memory PositionSet) (r : List Sym) (from : ℕ) (scan : Scan ℕ) (s : Scanner M S P) : Type 0 where
   pub ready : Ready automaton shelf policy s
   pub walk : Walk (subject automaton s) m (ahead_reads (subject automaton s).machine (subject automaton s).machine.begin (drop from r)) (memory shelf policy s) (tallied scan.counts)
   pub end_is : scan.mark ≡ far (subject automaton s).machine from from (subject automaton s).machine.begin (drop from r)
 
 -- a find is over
-pub record Located {M S P Sym : Type 0} (automaton : AutomatonMeaning M Sym) (shelf : ShelfMeaning S) (policy : PolicyMeaning P) (m : Memory PositionSet) (r : List Sym) (from : ℕ) (found : Found) (s : Searcher M S P) : Type 0 where
+pub record Located {M S P Sym : Type 0} (automaton : AutomatonMeaning M Sym) (shelf : ShelfMeaning S) (policy : PolicyMeaning P) (m : Memory PositionSet) (r : List Sym) (from : ℕ) (found : Found) (s : Scanner M S P) : Type 0 where
   pub ready : Ready automaton shelf policy s
   pub span_is : found.span ≡ find (subject automaton s).machine r from
   pub walk : Walk (subject automaton s) m (find_reads (subject automaton s).machine r from) (memory shelf policy s) (tallied found.counts)
@@ -89,12 +89,12 @@ pub record ListSoFar {Sym : Type 0} (X : Subject Sym PositionSet) (m : Memory Po
   pub written : (list X.machine r entries from).written ≡ xs ++ (list X.machine r left at).written
   pub rest : (list X.machine r entries from).rest ≡ (list X.machine r left at).rest
 
-pub record Listing {M S P Sym : Type 0} (automaton : AutomatonMeaning M Sym) (shelf : ShelfMeaning S) (policy : PolicyMeaning P) (m : Memory PositionSet) (r : List Sym) (entries from : ℕ) (xs : List Span) (left at : ℕ) (k : Counts) (s : Searcher M S P) : Type 0 where
+pub record Listing {M S P Sym : Type 0} (automaton : AutomatonMeaning M Sym) (shelf : ShelfMeaning S) (policy : PolicyMeaning P) (m : Memory PositionSet) (r : List Sym) (entries from : ℕ) (xs : List Span) (left at : ℕ) (k : Counts) (s : Scanner M S P) : Type 0 where
   pub ready : Ready automaton shelf policy s
   pub so_far : ListSoFar (subject automaton s) m r entries from xs left at (memory shelf policy s) (tallied k)
 
 -- a list is over: it wrote xs
-pub record Collected {M S P Sym : Type 0} (automaton : AutomatonMeaning M Sym) (shelf : ShelfMeaning S) (policy : PolicyMeaning P) (m : Memory PositionSet) (r : List Sym) (entries from : ℕ) (xs : List Span) (listed : Listed) (s : Searcher M S P) : Type 0 where
+pub record Collected {M S P Sym : Type 0} (automaton : AutomatonMeaning M Sym) (shelf : ShelfMeaning S) (policy : PolicyMeaning P) (m : Memory PositionSet) (r : List Sym) (entries from : ℕ) (xs : List Span) (listed : Listed) (s : Scanner M S P) : Type 0 where
   pub ready : Ready automaton shelf policy s
   pub written_is : xs ≡ (list (subject automaton s).machine r entries from).written
   pub rest_is : listed.rest ≡ (list (subject automaton s).machine r entries from).rest

@@ -8,6 +8,7 @@
 mod answer;
 mod counts;
 mod row;
+mod scanner;
 mod searcher;
 
 pub use answer::{Found, Listed, Whole};

@@ -1,98 +1,45 @@
-ghost use Rattle.std.specs.Prelude.{◌≡◌};
-ghost use Rattle.law.specs.Memory.{allowance, opened, sets_live, steps_known};
-ghost use Rattle.search.specs.Remembered.{memory, Ready};
-
-use crate::counts::Counts;
+// A searcher as its callers see it: a scanner whose fields fit together, from its opening on and after every call.
+use crate::answer::{Found, Listed, Whole};
+use crate::scanner::Scanner;
 use automaton::Automaton;
 use memory::policy::Policy;
 use memory::shelf::Shelf;
-use sets::{PlaceSet, PositionSet};
-
-mod ahead;
-mod back;
-mod calls;
-mod seats;
-mod steps;
+use refusal::Refusal;
+use std::marker::Model;
+use theory::Span;
 
 #[derive(Drop)]
-pub struct Searcher<'p, M, S, P> {
-    automaton: &'p M,
-    shelf: S,
-    policy: P,
-    // The set at each place, and the places that hold one.
-    sets: [PositionSet; 64],
-    live: PlaceSet,
-    // The places whose set is one of a scan back.
-    back: PlaceSet,
-    // The places whose set holds a first position, holds a last one, is empty.
-    begins: PlaceSet,
-    ends: PlaceSet,
-    empties: PlaceSet,
-    limit: u8,
+pub struct Searcher<'p, M: Automaton, S: Shelf, P: Policy> {
+    scanner: Scanner<'p, M, S, P>,
 }
 
-// A set that a scan is in, with its place where that is known.
-#[derive(Clone, Copy)]
-struct Cursor {
-    set: PositionSet,
-    place: Option<u8>,
-}
+impl<'p, M: Automaton, S: Shelf, P: Policy> Model for Searcher<'p, M, S, P> {
+    ghost use Rattle.search.specs.declared.scanner.Scanner.{Scanner};
+    ghost use Rattle.search.specs.Remembered.{Ready};
 
-// Where a set was seated, if anywhere, and how many steps that dropped.
-#[derive(Clone, Copy)]
-struct Seating {
-    place: Option<u8>,
-    gone: usize,
-}
+    ghost Value = { Scanner M S P };
 
-// Where a read leads, and how it counts.
-#[derive(Clone, Copy)]
-struct Move {
-    cursor: Cursor,
-    counts: Counts,
-}
+    ghost view = { λ s. s.scanner };
 
-// A scan that has come to a place of the record. Its mark is, back, the smallest place so far at which a word begins,
-// and ahead the end of the longest word so far.
-#[derive(Clone, Copy)]
-struct Scan<T> {
-    at: usize,
-    cursor: Cursor,
-    mark: T,
-    counts: Counts,
-}
-
-// A run of a scan over steps that the shelf knows: how far it has come, the place of its set, the scan's mark, and the
-// places that it met.
-#[derive(Clone, Copy)]
-struct Run<T> {
-    at: usize,
-    place: u8,
-    mark: T,
-    met: PlaceSet,
+    ghost invariant = { λ s. Ready M.Automaton S.Shelf P.Policy s.scanner };
 }
 
 impl<'p, M: Automaton, S: Shelf, P: Policy> Searcher<'p, M, S, P> {
+    ghost use Rattle.std.specs.Prelude.{◌≡◌, ◌<◌, length, drop, Some};
+    ghost use Rattle.refusal.specs.declared.Refusal.{Refusal as Refusing};
+    ghost use Rattle.law.specs.Calls.{refusal, Answered, Search, Find as FindQuery, Lists as ListQuery, Whole as WholeQuery, Limit as LimitRequest, Clear as ClearRequest, Dropped as Drops};
+    ghost use Rattle.law.specs.Law.{ByWords};
+    ghost use Rattle.law.specs.Memory.{allowance, opened, sets_live, steps_known};
+    ghost use Rattle.search.specs.Remembered.{memory, subject};
+    ghost use Rattle.search.specs.Calling.{reply, found, listed, told, written};
+
     // Opens a searcher: everything is dropped on shelf and policy.
-    pub fn open(automaton: &'p M, mut shelf: S, mut policy: P) -> Searcher<'p, M, S, P>
+    pub fn open(automaton: &'p M, shelf: S, policy: P) -> Searcher<'p, M, S, P>
         ensures opened { memory S.Shelf P.Policy result ≡ opened (S.Shelf.room shelf) (S.Shelf.most shelf) }
-        ensures ready { Ready M.Automaton S.Shelf P.Policy result }
         ensures automaton { result.automaton ≡ automaton.entry }
     {
-        shelf.empty();
-        policy.drop_places(PlaceSet::all());
-        let none = PlaceSet::empty();
         Searcher {
-            automaton,
-            shelf,
-            policy,
-            sets: [PositionSet::empty(); 64],
-            live: none,
-            back: none,
-            begins: none,
-            ends: none,
-            empties: none,
-            limit: 64,
+            scanner: Scanner::open(automaton, shelf, policy),
         }
     }
 
@@ -100,20 +47,73 @@ impl<'p, M: Automaton, S: Shelf, P: Policy> Searcher<'p, M, S, P> {
     pub fn live_sets(&self) -> u8
         ensures { result ≡ sets_live (memory S.Shelf P.Policy self.now) }
     {
-        self.live.count()
+        self.scanner.live_sets()
     }
 
     // How many steps are known.
     pub fn known_steps(&self) -> usize
-        ensures { Ready M.Automaton S.Shelf P.Policy self.now → result ≡ steps_known (memory S.Shelf P.Policy self.now) }
+        ensures { result ≡ steps_known (memory S.Shelf P.Policy self.now) }
     {
-        self.shelf.count()
+        self.scanner.known_steps()
     }
 
     // How many sets may be live.
     pub fn allowance(&self) -> u8
         ensures { result ≡ allowance (memory S.Shelf P.Policy self.now) }
     {
-        self.shelf.places().min(self.limit)
+        self.scanner.allowance()
+    }
+
+    // The leftmost, then longest, word that is not empty, from `from` on.
+    pub fn find(&mut self, row: &[M::Symbol], from: usize) -> Result<Found, Refusal>
+        ensures answered { Answered (subject M.Automaton self.old) (memory S.Shelf P.Policy self.old) (Search (FindQuery row.now from)) (memory S.Shelf P.Policy self.new) (reply found result) }
+        ensures words { ByWords (subject M.Automaton self.old) (Search (FindQuery row.now from)) (reply found result) }
+        ensures idle { (q : Refusing) → refusal (Search (FindQuery row.now from)) ≡ Some q → self.new ≡ self.old }
+        ensures automaton { self.new.automaton ≡ self.old.automaton }
+    {
+        self.scanner.find(row, from)
+    }
+
+    // Writes a span for each find, each from the end of the one before, and says where to go on.
+    pub fn list(
+        &mut self,
+        row: &[M::Symbol],
+        from: usize,
+        entries: &mut [Span],
+    ) -> Result<Listed, Refusal>
+        ensures answered { Answered (subject M.Automaton self.old) (memory S.Shelf P.Policy self.old) (Search (ListQuery row.now from (length entries.old))) (memory S.Shelf P.Policy self.new) (reply (listed entries.new) result) }
+        ensures words { ByWords (subject M.Automaton self.old) (Search (ListQuery row.now from (length entries.old))) (reply (listed entries.new) result) }
+        ensures idle { (q : Refusing) → refusal (Search (ListQuery row.now from (length entries.old))) ≡ Some q → self.new ≡ self.old }
+        ensures behind { drop (written result) entries.new ≡ drop (written result) entries.old }
+        ensures automaton { self.new.automaton ≡ self.old.automaton }
+    {
+        self.scanner.list(row, from, entries)
+    }
+
+    // Whether the record is a word.
+    pub fn whole(&mut self, row: &[M::Symbol]) -> Result<Whole, Refusal>
+        ensures answered { Answered (subject M.Automaton self.old) (memory S.Shelf P.Policy self.old) (Search (WholeQuery row.now)) (memory S.Shelf P.Policy self.new) (reply told result) }
+        ensures words { ByWords (subject M.Automaton self.old) (Search (WholeQuery row.now)) (reply told result) }
+        ensures idle { (q : Refusing) → refusal (Search (WholeQuery row.now)) ≡ Some q → self.new ≡ self.old }
+        ensures automaton { self.new.automaton ≡ self.old.automaton }
+    {
+        self.scanner.whole(row)
+    }
+
+    // Sets the limit; if more sets are live than the new allowance, all are dropped. Says how many steps were.
+    pub fn limit(&mut self, limit: usize) -> Result<usize, Refusal>
+        ensures answered { Answered (subject M.Automaton self.old) (memory S.Shelf P.Policy self.old) (LimitRequest limit) (memory S.Shelf P.Policy self.new) (reply Drops result) }
+        ensures idle { 64 < limit → self.new ≡ self.old }
+        ensures automaton { self.new.automaton ≡ self.old.automaton }
+    {
+        self.scanner.limit(limit)
+    }
+
+    // Drops everything, and says how many steps that were.
+    pub fn clear(&mut self) -> usize
+        ensures answered { Answered (subject M.Automaton self.old) (memory S.Shelf P.Policy self.old) ClearRequest (memory S.Shelf P.Policy self.new) (Drops result) }
+        ensures automaton { self.new.automaton ≡ self.old.automaton }
+    {
+        self.scanner.clear()
     }
 }
