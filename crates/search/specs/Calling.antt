@@ -34,7 +34,11 @@ abbrev pub written : Result Listed Refusal → ℕ
 written (Ok x) = x.written
 written (Err q) = 0
 
--- the call was answered as the law has it, and the searcher is ready for the next
+-- the call was answered as the law has it
+abbrev pub Called : {M S P Sym : Type 0} → AutomatonMeaning M Sym → ShelfMeaning S → PolicyMeaning P → Scanner M S P → Request Sym → Scanner M S P → Reply → Type 0
+Called automaton shelf policy before c after a = Answered (subject automaton before) (memory shelf policy before) c (memory shelf policy after) a
+
+-- so it was, and the fields fit together for the next
 pub record Did {M S P Sym : Type 0} (automaton : AutomatonMeaning M Sym) (shelf : ShelfMeaning S) (policy : PolicyMeaning P) (before : Scanner M S P) (c : Request Sym) (after : Scanner M S P) (a : Reply) : Type 0 where
-  pub answered : Answered (subject automaton before) (memory shelf policy before) c (memory shelf policy after) a
+  pub answered : Called automaton shelf policy before c after a
   pub ready : Ready automaton shelf policy after

@@ -27,11 +27,11 @@ impl<'p, M: Automaton, S: Shelf, P: Policy> Model for Searcher<'p, M, S, P> {
 impl<'p, M: Automaton, S: Shelf, P: Policy> Searcher<'p, M, S, P> {
     ghost use Rattle.std.specs.Prelude.{◌≡◌, ◌<◌, length, drop, Some};
     ghost use Rattle.refusal.specs.declared.Refusal.{Refusal as Refusing};
-    ghost use Rattle.law.specs.Calls.{refusal, Answered, Search, Find as FindQuery, Lists as ListQuery, Whole as WholeQuery, Limit as LimitRequest, Clear as ClearRequest, Dropped as Drops};
+    ghost use Rattle.law.specs.Calls.{refusal, Search, Find as FindQuery, Lists as ListQuery, Whole as WholeQuery, Limit as LimitRequest, Clear as ClearRequest, Dropped as Drops};
     ghost use Rattle.law.specs.Law.{ByWords};
     ghost use Rattle.law.specs.Memory.{allowance, opened, sets_live, steps_known};
     ghost use Rattle.search.specs.Remembered.{memory, subject};
-    ghost use Rattle.search.specs.Calling.{reply, found, listed, told, written};
+    ghost use Rattle.search.specs.Calling.{Called, reply, found, listed, told, written};
 
     // Opens a searcher: everything is dropped on shelf and policy.
     pub fn open(automaton: &'p M, shelf: S, policy: P) -> Searcher<'p, M, S, P>
@@ -66,7 +66,7 @@ impl<'p, M: Automaton, S: Shelf, P: Policy> Searcher<'p, M, S, P> {
 
     // The leftmost, then longest, word that is not empty, from `from` on.
     pub fn find(&mut self, row: &[M::Symbol], from: usize) -> Result<Found, Refusal>
-        ensures answered { Answered (subject M.Automaton self.old) (memory S.Shelf P.Policy self.old) (Search (FindQuery row.now from)) (memory S.Shelf P.Policy self.new) (reply found result) }
+        ensures called { Called M.Automaton S.Shelf P.Policy self.old (Search (FindQuery row.now from)) self.new (reply found result) }
         ensures words { ByWords (subject M.Automaton self.old) (Search (FindQuery row.now from)) (reply found result) }
         ensures idle { (q : Refusing) → refusal (Search (FindQuery row.now from)) ≡ Some q → self.new ≡ self.old }
         ensures automaton { self.new.automaton ≡ self.old.automaton }
@@ -81,7 +81,7 @@ impl<'p, M: Automaton, S: Shelf, P: Policy> Searcher<'p, M, S, P> {
         from: usize,
         entries: &mut [Span],
     ) -> Result<Listed, Refusal>
-        ensures answered { Answered (subject M.Automaton self.old) (memory S.Shelf P.Policy self.old) (Search (ListQuery row.now from (length entries.old))) (memory S.Shelf P.Policy self.new) (reply (listed entries.new) result) }
+        ensures called { Called M.Automaton S.Shelf P.Policy self.old (Search (ListQuery row.now from (length entries.old))) self.new (reply (listed entries.new) result) }
         ensures words { ByWords (subject M.Automaton self.old) (Search (ListQuery row.now from (length entries.old))) (reply (listed entries.new) result) }
         ensures idle { (q : Refusing) → refusal (Search (ListQuery row.now from (length entries.old))) ≡ Some q → self.new ≡ self.old }
         ensures behind { drop (written result) entries.new ≡ drop (written result) entries.old }
@@ -92,7 +92,7 @@ impl<'p, M: Automaton, S: Shelf, P: Policy> Searcher<'p, M, S, P> {
 
     // Whether the record is a word.
     pub fn whole(&mut self, row: &[M::Symbol]) -> Result<Whole, Refusal>
-        ensures answered { Answered (subject M.Automaton self.old) (memory S.Shelf P.Policy self.old) (Search (WholeQuery row.now)) (memory S.Shelf P.Policy self.new) (reply told result) }
+        ensures called { Called M.Automaton S.Shelf P.Policy self.old (Search (WholeQuery row.now)) self.new (reply told result) }
         ensures words { ByWords (subject M.Automaton self.old) (Search (WholeQuery row.now)) (reply told result) }
         ensures idle { (q : Refusing) → refusal (Search (WholeQuery row.now)) ≡ Some q → self.new ≡ self.old }
         ensures automaton { self.new.automaton ≡ self.old.automaton }
@@ -102,7 +102,7 @@ impl<'p, M: Automaton, S: Shelf, P: Policy> Searcher<'p, M, S, P> {
 
     // Sets the limit; if more sets are live than the new allowance, all are dropped. Says how many steps were.
     pub fn limit(&mut self, limit: usize) -> Result<usize, Refusal>
-        ensures answered { Answered (subject M.Automaton self.old) (memory S.Shelf P.Policy self.old) (LimitRequest limit) (memory S.Shelf P.Policy self.new) (reply Drops result) }
+        ensures called { Called M.Automaton S.Shelf P.Policy self.old (LimitRequest limit) self.new (reply Drops result) }
         ensures idle { 64 < limit → self.new ≡ self.old }
         ensures automaton { self.new.automaton ≡ self.old.automaton }
     {
@@ -111,7 +111,7 @@ impl<'p, M: Automaton, S: Shelf, P: Policy> Searcher<'p, M, S, P> {
 
     // Drops everything, and says how many steps that were.
     pub fn clear(&mut self) -> usize
-        ensures answered { Answered (subject M.Automaton self.old) (memory S.Shelf P.Policy self.old) ClearRequest (memory S.Shelf P.Policy self.new) (Drops result) }
+        ensures called { Called M.Automaton S.Shelf P.Policy self.old ClearRequest self.new (Drops result) }
         ensures automaton { self.new.automaton ≡ self.old.automaton }
     {
         self.scanner.clear()

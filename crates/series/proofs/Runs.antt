@@ -18,7 +18,7 @@ use Rattle.search.specs.declared.searcher.Searcher.{Searcher}
 use Rattle.series.specs.declared.series.Call.{Call}
 use Rattle.series.specs.declared.series.Call.TheVariants as call
 use Rattle.search.specs.Remembered.{memory, subject}
-use Rattle.search.specs.Calling.{Did}
+use Rattle.search.specs.Calling.{Called}
 use Rattle.series.specs.Answers.{Outcome}
 use Rattle.series.specs.Performed.{portion, request, requests, each, taken, Agrees, Continues}
 
@@ -135,15 +135,15 @@ series_append X m [] (b ∷ ts) k cs rs n e s = elim e [ ]
 series_append X m (d ∷ ds) [] k cs rs n e s = elim e [ ]
 series_append X m (d ∷ ds) (b ∷ ts) k cs rs n (j, (t, r)) s = (j, (t, series_append X j ds ts k cs rs n r s))
 
-pub continues : {Sym : Type 0} (X : Subject Sym PositionSet) (m : Memory PositionSet) (cs : List (Request Sym)) (rs : List Reply) (n : Memory PositionSet) → Proper X → Sound X m → Series X m cs rs n → Continues X m cs rs n
-continues X m cs rs n law ok s ds ts before =
-    every X law m.places m.capacity (ds ++ cs) (ts ++ rs) n ok.few ok.some (series_append X (opened m.places m.capacity) ds ts m cs rs n before s)
+pub continues : {Sym : Type 0} (X : Subject Sym PositionSet) (m : Memory PositionSet) (cs : List (Request Sym)) (rs : List Reply) (n : Memory PositionSet) → Proper X → m.places ≤ 64 → (0 < m.places → 0 < m.capacity) → Series X m cs rs n → Continues X m cs rs n
+continues X m cs rs n law few some s ds ts before =
+    every X law m.places m.capacity (ds ++ cs) (ts ++ rs) n few some (series_append X (opened m.places m.capacity) ds ts m cs rs n before s)
 
 module _ {M S P Sym : Type 0} (automaton : AutomatonMeaning M Sym) (shelf : ShelfMeaning S) (policy : PolicyMeaning P) (laws : (m : M) → Proper (automaton.subject m)) where
-  pub series_next : (s j n : Searcher M S P) (cs cs' : List (Request Sym)) (rs rs' : List Reply) (c : Request Sym) (a : Reply) → j.automaton ≡ s.automaton → cs' ≡ cs ++ (c ∷ []) → rs' ≡ rs ++ (a ∷ []) → Did automaton shelf policy j c n a → Series (subject automaton s) (memory shelf policy s) cs rs (memory shelf policy j) → Series (subject automaton s) (memory shelf policy s) cs' rs' (memory shelf policy n)
+  pub series_next : (s j n : Searcher M S P) (cs cs' : List (Request Sym)) (rs rs' : List Reply) (c : Request Sym) (a : Reply) → j.automaton ≡ s.automaton → cs' ≡ cs ++ (c ∷ []) → rs' ≡ rs ++ (a ∷ []) → Called automaton shelf policy j c n a → Series (subject automaton s) (memory shelf policy s) cs rs (memory shelf policy j) → Series (subject automaton s) (memory shelf policy s) cs' rs' (memory shelf policy n)
   series_next s j n cs cs' rs rs' c a e ec er d w =
       let X = subject automaton s in
-      let one : Answered X (memory shelf policy j) c (memory shelf policy n) a = subst (λ y. Answered (automaton.subject y.now) (memory shelf policy j) c (memory shelf policy n) a) e d.answered in
+      let one : Answered X (memory shelf policy j) c (memory shelf policy n) a = subst (λ y. Answered (automaton.subject y.now) (memory shelf policy j) c (memory shelf policy n) a) e d in
       subst (λ y. Series X (memory shelf policy s) y rs' (memory shelf policy n)) (sym ec)
       (subst (λ y. Series X (memory shelf policy s) (cs ++ (c ∷ [])) y (memory shelf policy n)) (sym er) (series_snoc X (memory shelf policy s) cs rs (memory shelf policy j) c a (memory shelf policy n) w one))
 

@@ -1,7 +1,7 @@
 // Two series of calls for one pattern agree.
 ghost use Rattle.std.specs.Prelude.{◌≡◌, min, length, take};
 ghost use Rattle.law.specs.Law.{Lawful};
-ghost use Rattle.search.specs.Remembered.{memory, Ready};
+ghost use Rattle.search.specs.Remembered.{memory};
 ghost use Rattle.series.specs.Performed.{requests, replies, Same, Spared};
 
 use crate::answer::Answer;
@@ -22,7 +22,7 @@ pub struct Side<'c, 'r, T, S, P> {
 
 // Two series of calls for one pattern, each with its searcher.
 #[derive(Drop)]
-pub struct Agreement<'p, M, S, P, T, Q> {
+pub struct Agreement<'p, M: Automaton, S: Shelf, P: Policy, T: Shelf, Q: Policy> {
     pub first: Session<'p, M, S, P>,
     pub second: Session<'p, M, T, Q>,
 }
@@ -43,7 +43,6 @@ pub fn agree<'p, M: Automaton, S: Shelf, P: Policy, T: Shelf, Q: Policy>(
     ensures first { Lawful (M.Automaton.subject automaton.now) (S.Shelf.room first.entry.shelf) (S.Shelf.most first.entry.shelf) (requests (length first_entries.old) (take result.first.made first.entry.calls.now)) (replies first_entries.new (take result.first.made first.entry.calls.now) (take result.first.made first_answers.new)) (memory S.Shelf P.Policy result.first.searcher) }
     ensures second { Lawful (M.Automaton.subject automaton.now) (T.Shelf.room second.entry.shelf) (T.Shelf.most second.entry.shelf) (requests (length second_entries.old) (take result.second.made second.entry.calls.now)) (replies second_entries.new (take result.second.made second.entry.calls.now) (take result.second.made second_answers.new)) (memory T.Shelf Q.Policy result.second.searcher) }
     ensures same { Same (requests (length first_entries.old) (take result.first.made first.entry.calls.now)) (replies first_entries.new (take result.first.made first.entry.calls.now) (take result.first.made first_answers.new)) (requests (length second_entries.old) (take result.second.made second.entry.calls.now)) (replies second_entries.new (take result.second.made second.entry.calls.now) (take result.second.made second_answers.new)) }
-    ensures ready { Ready M.Automaton S.Shelf P.Policy result.first.searcher × Ready M.Automaton T.Shelf Q.Policy result.second.searcher }
     ensures automaton { (result.first.searcher.automaton ≡ automaton.entry) × (result.second.searcher.automaton ≡ automaton.entry) }
     ensures spared { Spared result.first.made first.entry.calls.now first_entries.old first_entries.new first_answers.old first_answers.new × Spared result.second.made second.entry.calls.now second_entries.old second_entries.new second_answers.old second_answers.new }
 {

@@ -2,8 +2,8 @@
 ghost use Rattle.std.specs.Prelude.{◌≡◌, ℕ, ◌+◌, ◌≤◌, min, length, take, drop};
 ghost use Rattle.law.specs.Calls.{Series};
 ghost use Rattle.law.specs.Law.{Lawful};
-ghost use Rattle.search.specs.Remembered.{memory, subject, Ready};
-ghost use Rattle.search.specs.Calling.{Did};
+ghost use Rattle.search.specs.Remembered.{memory, subject};
+ghost use Rattle.search.specs.Calling.{Called};
 ghost use Rattle.series.specs.Answers.{reply, written};
 ghost use Rattle.series.specs.Performed.{portion, request, requests, replies, behind, taken, Agrees, Continues};
 
@@ -41,7 +41,7 @@ fn make<M: Automaton, S: Shelf, P: Policy>(
     call: &Call<'_, M::Symbol>,
     entries: &mut [Span],
 ) -> Result<Answer, Refusal>
-    ensures did { Ready M.Automaton S.Shelf P.Policy s.old → Did M.Automaton S.Shelf P.Policy s.old (request (length entries.old) call.now) s.new (reply entries.new result) }
+    ensures called { Called M.Automaton S.Shelf P.Policy s.old (request (length entries.old) call.now) s.new (reply entries.new result) }
     ensures behind { drop (written result) entries.new ≡ drop (written result) entries.old }
     ensures automaton { s.new.automaton ≡ s.old.automaton }
 {
@@ -64,9 +64,8 @@ pub fn perform<M: Automaton, S: Shelf, P: Policy>(
     answers: &mut [Result<Answer, Refusal>],
 ) -> usize
     ensures count { result ≡ min (length calls.now) (length answers.old) }
-    ensures series { Ready M.Automaton S.Shelf P.Policy s.old → Series (subject M.Automaton s.old) (memory S.Shelf P.Policy s.old) (requests (length entries.old) (take result calls.now)) (replies entries.new (take result calls.now) (take result answers.new)) (memory S.Shelf P.Policy s.new) }
-    ensures law { Ready M.Automaton S.Shelf P.Policy s.old → Continues (subject M.Automaton s.old) (memory S.Shelf P.Policy s.old) (requests (length entries.old) (take result calls.now)) (replies entries.new (take result calls.now) (take result answers.new)) (memory S.Shelf P.Policy s.new) }
-    ensures ready { Ready M.Automaton S.Shelf P.Policy s.old → Ready M.Automaton S.Shelf P.Policy s.new }
+    ensures series { Series (subject M.Automaton s.old) (memory S.Shelf P.Policy s.old) (requests (length entries.old) (take result calls.now)) (replies entries.new (take result calls.now) (take result answers.new)) (memory S.Shelf P.Policy s.new) }
+    ensures law { Continues (subject M.Automaton s.old) (memory S.Shelf P.Policy s.old) (requests (length entries.old) (take result calls.now)) (replies entries.new (take result calls.now) (take result answers.new)) (memory S.Shelf P.Policy s.new) }
     ensures unanswered { drop result answers.new ≡ drop result answers.old }
     ensures behind { behind entries.new (take result calls.now) (take result answers.new) ≡ behind entries.old (take result calls.now) (take result answers.new) }
     ensures untaken { drop (taken (length entries.old) (take result calls.now)) entries.new ≡ drop (taken (length entries.old) (take result calls.now)) entries.old }
@@ -85,7 +84,7 @@ pub fn perform<M: Automaton, S: Shelf, P: Policy>(
 
 // A series of calls on a searcher that was opened for it: how many calls were made, and the searcher.
 #[derive(Drop)]
-pub struct Session<'p, M, S, P> {
+pub struct Session<'p, M: Automaton, S: Shelf, P: Policy> {
     pub made: usize,
     pub searcher: Searcher<'p, M, S, P>,
 }
@@ -102,7 +101,6 @@ pub fn run<'p, M: Automaton, S: Shelf, P: Policy>(
     ensures count { result.made ≡ min (length calls.now) (length answers.old) }
     ensures law { Lawful (M.Automaton.subject automaton.now) (S.Shelf.room shelf) (S.Shelf.most shelf) (requests (length entries.old) (take result.made calls.now)) (replies entries.new (take result.made calls.now) (take result.made answers.new)) (memory S.Shelf P.Policy result.searcher) }
     ensures agrees { Agrees (M.Automaton.subject automaton.now) (requests (length entries.old) (take result.made calls.now)) (replies entries.new (take result.made calls.now) (take result.made answers.new)) }
-    ensures ready { Ready M.Automaton S.Shelf P.Policy result.searcher }
     ensures automaton { result.searcher.automaton ≡ automaton.entry }
     ensures unanswered { drop result.made answers.new ≡ drop result.made answers.old }
     ensures behind { behind entries.new (take result.made calls.now) (take result.made answers.new) ≡ behind entries.old (take result.made calls.now) (take result.made answers.new) }

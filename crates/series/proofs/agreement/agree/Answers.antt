@@ -9,7 +9,6 @@ returns g c =
       first = a.law;
       second = b.law;
       same = a.agrees _ _ _ _ _ b.law;
-      ready = (a.ready, b.ready);
       automaton = (a.automaton, b.automaton);
       spared = (record { unanswered = a.unanswered; unwritten = a.behind; untaken = a.untaken }, record { unanswered = b.unanswered; unwritten = b.behind; untaken = b.untaken });
     }

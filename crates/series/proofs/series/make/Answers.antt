@@ -5,18 +5,18 @@ use Rattle.series.specs.declared.answer.Answer.TheVariants.{Found, Listed, Whole
 use Rattle.series.proofs.Making.{made}
 use Rattle.series.proofs.series.make.Goals as goal
 
-pub returns-in-Find-clause-did : goal.returns-in-Find-clause-did
-returns-in-Find-clause-did g c = λ ok.
-    made g.M.Automaton g.S.Shelf g.P.Policy c.args.s.now c.find.new.self (length c.args.entries.now) c.args.call.now _ found (λ x. Found x) c.args.entries.now c.find.result c.map.result (λ x. refl) c.in-Find.is c.map.ensures.cases (c.find.ensures.did ok)
+pub returns-in-Find-clause-called : goal.returns-in-Find-clause-called
+returns-in-Find-clause-called g c =
+    made g.M.Automaton g.S.Shelf g.P.Policy c.args.s.now c.find.new.self (length c.args.entries.now) c.args.call.now _ found (λ x. Found x) c.args.entries.now c.find.result c.map.result (λ x. refl) c.in-Find.is c.map.ensures.cases (c.find.ensures.called)
 
-pub returns-in-List-clause-did : goal.returns-in-List-clause-did
-returns-in-List-clause-did g c = λ ok.
-    made g.M.Automaton g.S.Shelf g.P.Policy c.args.s.now c.list.new.self (length c.args.entries.now) c.args.call.now _ (listed c.list.new.entries) (λ x. Listed x) c.list.new.entries c.list.result c.map-in-List.result (λ x. refl) c.in-List.is c.map-in-List.ensures.cases (c.list.ensures.did ok)
+pub returns-in-List-clause-called : goal.returns-in-List-clause-called
+returns-in-List-clause-called g c =
+    made g.M.Automaton g.S.Shelf g.P.Policy c.args.s.now c.list.new.self (length c.args.entries.now) c.args.call.now _ (listed c.list.new.entries) (λ x. Listed x) c.list.new.entries c.list.result c.map-in-List.result (λ x. refl) c.in-List.is c.map-in-List.ensures.cases (c.list.ensures.called)
 
-pub returns-in-Whole-clause-did : goal.returns-in-Whole-clause-did
-returns-in-Whole-clause-did g c = λ ok.
-    made g.M.Automaton g.S.Shelf g.P.Policy c.args.s.now c.whole.new.self (length c.args.entries.now) c.args.call.now _ told (λ x. Whole x) c.args.entries.now c.whole.result c.map-in-Whole.result (λ x. refl) c.in-Whole.is c.map-in-Whole.ensures.cases (c.whole.ensures.did ok)
+pub returns-in-Whole-clause-called : goal.returns-in-Whole-clause-called
+returns-in-Whole-clause-called g c =
+    made g.M.Automaton g.S.Shelf g.P.Policy c.args.s.now c.whole.new.self (length c.args.entries.now) c.args.call.now _ told (λ x. Whole x) c.args.entries.now c.whole.result c.map-in-Whole.result (λ x. refl) c.in-Whole.is c.map-in-Whole.ensures.cases (c.whole.ensures.called)
 
-pub returns-in-Limit-clause-did : goal.returns-in-Limit-clause-did
-returns-in-Limit-clause-did g c = λ ok.
-    made g.M.Automaton g.S.Shelf g.P.Policy c.args.s.now c.limit.new.self (length c.args.entries.now) c.args.call.now _ (λ x. Drops x) (λ x. Dropped x) c.args.entries.now c.limit.result c.map-in-Limit.result (λ x. refl) c.in-Limit.is c.map-in-Limit.ensures.cases (c.limit.ensures.did ok)
+pub returns-in-Limit-clause-called : goal.returns-in-Limit-clause-called
+returns-in-Limit-clause-called g c =
+    made g.M.Automaton g.S.Shelf g.P.Policy c.args.s.now c.limit.new.self (length c.args.entries.now) c.args.call.now _ (λ x. Drops x) (λ x. Dropped x) c.args.entries.now c.limit.result c.map-in-Limit.result (λ x. refl) c.in-Limit.is c.map-in-Limit.ensures.cases (c.limit.ensures.called)

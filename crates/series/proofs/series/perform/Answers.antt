@@ -4,7 +4,7 @@ use Rattle.std.proofs.lemmas.List.{drop-set-lt, drop-drop}
 use Rattle.std.proofs.lemmas.Slice.{overwrites, drop-put_mid}
 use Rattle.theory.specs.declared.Span.{Span}
 use Rattle.law.specs.Calls.{Series}
-use Rattle.search.specs.Calling.{Did}
+use Rattle.search.specs.Calling.{Called}
 use Rattle.search.specs.Remembered.{memory, subject}
 use Rattle.series.specs.Answers.{Outcome, reply, written}
 use Rattle.series.specs.Performed.{portion, request, requests, replies, each}
@@ -44,15 +44,13 @@ loop-i-preserved g c =
       drop-set-lt _ c.loop-i.answers i _ (omega arith) ∙ sym (drop-drop 1 i _) ∙ ap (drop 1) v.3 ∙ drop-drop 1 i _,
       drop-put_mid used k pool part (used + n) (omega arith) (omega arith) (omega arith) ∙ sym (drop-drop n used pool) ∙ ap (drop n) v.4 ∙ drop-drop n used _,
       e.automaton ∙ v.5,
-      (λ ok. (e.did (v.6 ok)).ready),
-      (λ ok.
-          series_next g.M.Automaton g.S.Shelf g.P.Policy g.met.M.Automaton.proper c.args.s.now c.loop-i.s c.make.new.s _ _ _ _ (request n call) (reply part c.make.result) v.5
+      series_next g.M.Automaton g.S.Shelf g.P.Policy g.met.M.Automaton.proper c.args.s.now c.loop-i.s c.make.new.s _ _ _ _ (request n call) (reply part c.make.result) v.5
           (requests_more N c.args.calls.now i used n call hc c.index-calls-i.is v.0 p)
           (each_more reply N pool (put_mid used k pool part) part k c.args.calls.now c.loop-i.answers i used n call c.make.result whole after refl long v.1 hc ha c.index-calls-i.is v.0 p)
-          (subst (λ x. Did g.M.Automaton g.S.Shelf g.P.Policy c.loop-i.s (request x call) c.make.new.s (reply part c.make.result)) lent (e.did (v.6 ok)))
-          (v.7 ok)),
+          (subst (λ x. Called g.M.Automaton g.S.Shelf g.P.Policy c.loop-i.s (request x call) c.make.new.s (reply part c.make.result)) lent e.called)
+          v.6,
       each_more f N pool (put_mid used k pool part) part k c.args.calls.now c.loop-i.answers i used n call a whole after refl long v.1 hc ha c.index-calls-i.is v.0 p
-          ∙ ap (λ x. x ++ (f part a ∷ [])) v.8 ∙ ap (λ x. each f first cs rs ++ (x ∷ [])) same
+          ∙ ap (λ x. x ++ (f part a ∷ [])) v.7 ∙ ap (λ x. each f first cs rs ++ (x ∷ [])) same
           ∙ sym (each_same f N first c.args.calls.now c.loop-i.answers i used n call a refl hc ha c.index-calls-i.is v.0 p),
     )
 
@@ -60,6 +58,7 @@ pub returns : goal.returns
 returns g c =
     let v = c.loop-i.invariant in
     let s = c.args.s.now in
+    let b = g.S.Shelf.bounds s.shelf in
     let X = subject g.M.Automaton s in
     let m = memory g.S.Shelf g.P.Policy s in
     let N : ℕ = length c.args.entries.now in
@@ -68,9 +67,8 @@ returns g c =
     let all : ℕ → Type 0 = λ k. Series X m (requests N (take k calls)) (replies c.loop-i.entries (take k calls) (take k c.loop-i.answers)) (memory g.S.Shelf g.P.Policy c.loop-i.s) in
     record {
       count = search rules;
-      series = λ ok. subst all end (v.7 ok);
-      law = λ ok. continues X m _ _ _ (g.met.M.Automaton.proper s.automaton.now) ok.sound (subst all end (v.7 ok));
-      ready = v.6;
+      series = subst all end v.6;
+      law = continues X m _ _ _ (g.met.M.Automaton.proper s.automaton.now) b.few b.some (subst all end v.6);
       unanswered = search rules;
       behind = search rules;
       untaken = search rules;

@@ -1,6 +1,6 @@
 use Rattle.std.proofs.Common.{◌≡◌, ◌≤◌, length, take, drop}
 use Rattle.law.specs.Calls.{Series}
-use Rattle.search.specs.Remembered.{memory, subject, Ready}
+use Rattle.search.specs.Remembered.{memory, subject}
 use Rattle.series.specs.Performed.{requests, replies, behind, taken}
 use Rattle.series.proofs.series.perform.Given as goal
 
@@ -12,7 +12,5 @@ invariant-loop-i g l =
     × (drop l.i l.answers ≡ drop l.i l.initial.answers)
     × (drop l.used l.entries ≡ drop l.used l.initial.entries)
     × (l.s.automaton ≡ l.initial.s.automaton)
-    × (Ready g.M.Automaton g.S.Shelf g.P.Policy l.initial.s → Ready g.M.Automaton g.S.Shelf g.P.Policy l.s)
-    × (Ready g.M.Automaton g.S.Shelf g.P.Policy l.initial.s →
-    Series (subject g.M.Automaton l.initial.s) (memory g.S.Shelf g.P.Policy l.initial.s) (requests (length l.initial.entries) (take l.i l.calls)) (replies l.entries (take l.i l.calls) (take l.i l.answers)) (memory g.S.Shelf g.P.Policy l.s))
+    × (Series (subject g.M.Automaton l.initial.s) (memory g.S.Shelf g.P.Policy l.initial.s) (requests (length l.initial.entries) (take l.i l.calls)) (replies l.entries (take l.i l.calls) (take l.i l.answers)) (memory g.S.Shelf g.P.Policy l.s))
     × (behind l.entries (take l.i l.calls) (take l.i l.answers) ≡ behind l.initial.entries (take l.i l.calls) (take l.i l.answers))

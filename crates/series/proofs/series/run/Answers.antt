@@ -8,12 +8,11 @@ returns g c =
     let o = c.open-searcher.ensures in
     let p = c.perform-made.ensures in
     let law = lawful_run g.M.Automaton g.S.Shelf g.P.Policy g.met.M.Automaton.proper c.open-searcher.result c.perform-made.new.s (g.S.Shelf.room c.args.shelf) (g.S.Shelf.most c.args.shelf) _ _ c.args.automaton.now
-    (ap (λ y. y.now) o.automaton) o.opened b.few b.some (p.series o.ready) in
+    (ap (λ y. y.now) o.automaton) o.opened b.few b.some p.series in
     record {
       count = p.count;
       law = law;
       agrees = agree (g.M.Automaton.subject c.args.automaton.now) _ _ _ _ _ law;
-      ready = p.ready o.ready;
       automaton = p.automaton ∙ o.automaton;
       unanswered = p.unanswered;
       behind = p.behind;
