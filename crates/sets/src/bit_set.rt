@@ -150,9 +150,7 @@ impl<K> BitSet<K> {
     }
 }
 
-// Names a theorem, and its answer says nothing: two sets are equal exactly if they have the same members.
-pub fn equality_stands<K>(_a: BitSet<K>, _b: BitSet<K>) -> u8
-    ensures { Decides (⟦<BitSet<K> as PartialEq>⟧.eq _a _b) (members _a ≡ members _b) }
-{
-    0
-}
+// Two sets are equal exactly if they have the same members.
+pub fn equality_stands<K>(_one: BitSet<K>, _other: BitSet<K>)
+    ensures { Decides (⟦<BitSet<K> as PartialEq>⟧.eq _one _other) (members _one ≡ members _other) }
+{}

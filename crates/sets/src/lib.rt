@@ -4,5 +4,5 @@
 mod bit_set;
 mod iter;
 
-pub use bit_set::{BitSet, Place, PlaceSet, Position, PositionSet};
+pub use bit_set::{BitSet, Place, PlaceSet, Position, PositionSet, equality_stands};
 pub use iter::Iter;

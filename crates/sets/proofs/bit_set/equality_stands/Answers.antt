@@ -6,4 +6,4 @@ use Rattle.sets.proofs.bit_set.equality_stands.Goals as goal
 
 pub returns : goal.returns
 unfolding members
-returns g c = rw (and-true (nat_eq c.args._a.bits c.args._b.bits)) (same_mask 64 c.args._a.bits c.args._b.bits (omega arith) (omega arith))
+returns g c = rw (and-true (nat_eq c.args._one.bits c.args._other.bits)) (same_mask 64 c.args._one.bits c.args._other.bits (omega arith) (omega arith))
