@@ -1,4 +1,4 @@
-use Rattle.std.proofs.Common.{◌≡◌, ◌+◌, None, drop, ap, ◌∙◌, arith}
+use Rattle.std.proofs.Common.{◌≡◌, ◌+◌, ◌≤◌, None, get_or, drop, ap, ◌∙◌, arith}
 use Rattle.byte_notation.specs.Classes.{ranges_of, class_at, passed}
 use Rattle.byte_notation.proofs.Fronts.{none_found}
 use Rattle.byte_notation.proofs.Steps.{range_behind}
@@ -10,7 +10,8 @@ returns-in-Some-2-clause-moved c =
     let q = c.args.cursor.now in
     let none : class_at (drop q ts) ≡ None = none_found ranges_of _ c.in_default.ensures.is in
     let same : c.read_class.new.cursor ≡ q = c.in_default.ensures.moved ∙ ap (λ o. passed o q) none in
+    let ordered : get_or c.behind-left.result.bytes.now 0 0 ≤ c.in-Some-range_end.high = omega arith in
     let ends =
     range_behind (c.args.text.place + q) q ts c.behind-left.result.bytes.now c.in-Some-range_end.high c.requires none (c.behind-left.ensures.bytes ∙ ap (λ n. drop n ts) same)
-    c.in-Some-range_end.ensures.is c.if-high-low.false in
+    c.in-Some-range_end.ensures.is ordered in
     omega arith
