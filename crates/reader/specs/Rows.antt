@@ -1,5 +1,5 @@
 -- A text as a row of lexemes: each stands where the one before ends.
-use Rattle.std.specs.Prelude.{◌≡◌, ℕ, zero, suc, ◌+◌, ◌<◌, ◌≤◌, Bool, true, false, List, [], ◌∷◌, length, drop, Some, None, Ok, Option, Result}
+use Rattle.std.specs.Prelude.{◌≡◌, ℕ, zero, suc, ◌+◌, ◌<◌, ◌≤◌, List, [], ◌∷◌, length, drop, Some, None, Ok, Option, Result}
 use Rattle.refusal.specs.declared.Refusal.{Refusal}
 use Rattle.items.specs.declared.Item.{Item}
 use Rattle.items.specs.declared.Placed.{Placed}
@@ -51,10 +51,6 @@ with_test (Atom t) ts = t ∷ ts
 abbrev pub tests : {T : Type 0} → List (Found T) → List T
 tests [] = []
 tests (f ∷ fs) = with_test f.token (tests fs)
-
-abbrev pub atom : Item → Bool
-atom Item.Atom = true
-atom (Item.Sign s) = false
 
 -- the place of the first atom past so many
 abbrev pub past : ℕ → ℕ → (ℕ → Option ℕ) → Option ℕ
