@@ -6,7 +6,7 @@ use Rattle.memory.specs.declared.policy.Policy.{Ghosts as PolicyMeaning}
 use Rattle.theory.specs.declared.Span.{Span}
 use Rattle.law.specs.Calls.{Answer as Reply}
 use Rattle.automaton.specs.declared.automaton.Automaton.{Ghosts as AutomatonMeaning}
-use Rattle.search.specs.declared.searcher.Searcher.{Searcher}
+use Rattle.search.specs.declared.scanner.Scanner.{Scanner}
 use Rattle.search.specs.Calling.{Called, reply as reply_by}
 use Rattle.series.specs.declared.answer.Answer.{Answer}
 use Rattle.series.specs.declared.series.Call.{Call}
@@ -20,7 +20,7 @@ mapped f v entries (Ok x) (Err q) h e = absurd e
 mapped f v entries (Err q) o h e = ap (reply entries) e
 
 module _ {M S P Sym : Type 0} (automaton : AutomatonMeaning M Sym) (shelf : ShelfMeaning S) (policy : PolicyMeaning P) where
-  pub made : {A : Type 0} (s n : Searcher M S P) (k : ℕ) (call call' : Call Sym) (f : A → Reply) (v : A → Answer) (entries : List Span) (r : Result A Refusal) (o : Outcome) → ((x : A) → answered entries (v x) ≡ f x) → call ≡ call' → MatchResult r (λ x. IsOkAnd o (λ y. y ≡ v x)) (λ q. o ≡ Err q) → Called automaton shelf policy s (request k call') n (reply_by f r) → Called automaton shelf policy s (request k call) n (reply entries o)
+  pub made : {A : Type 0} (s n : Scanner M S P) (k : ℕ) (call call' : Call Sym) (f : A → Reply) (v : A → Answer) (entries : List Span) (r : Result A Refusal) (o : Outcome) → ((x : A) → answered entries (v x) ≡ f x) → call ≡ call' → MatchResult r (λ x. IsOkAnd o (λ y. y ≡ v x)) (λ q. o ≡ Err q) → Called automaton shelf policy s (request k call') n (reply_by f r) → Called automaton shelf policy s (request k call) n (reply entries o)
   made s n k call call' f v entries r o h is e did =
       subst (λ y. Called automaton shelf policy s (request k y) n (reply entries o)) (sym is)
       (subst (λ y. Called automaton shelf policy s (request k call') n y) (sym (mapped f v entries r o h e)) did)

@@ -8,13 +8,13 @@ use Rattle.sets.specs.Positions.{PositionSet}
 use Rattle.memory.specs.declared.shelf.Shelf.{Ghosts as ShelfMeaning}
 use Rattle.memory.specs.declared.policy.Policy.{Ghosts as PolicyMeaning}
 use Rattle.law.specs.Subject.{Subject, Proper}
-use Rattle.law.specs.Memory.{Memory, opened, Sound}
+use Rattle.law.specs.Memory.{Memory, opened}
 use Rattle.law.specs.Calls.{Request, Answer as Reply, Answered, Series}
 use Rattle.law.specs.Law.{Lawful}
 use Rattle.law.proofs.Calling.{series_snoc}
 use Rattle.law.proofs.Laws.{every, two}
 use Rattle.automaton.specs.declared.automaton.Automaton.{Ghosts as AutomatonMeaning}
-use Rattle.search.specs.declared.searcher.Searcher.{Searcher}
+use Rattle.search.specs.declared.scanner.Scanner.{Scanner}
 use Rattle.series.specs.declared.series.Call.{Call}
 use Rattle.series.specs.declared.series.Call.TheVariants as call
 use Rattle.search.specs.Remembered.{memory, subject}
@@ -140,14 +140,14 @@ continues X m cs rs n law few some s ds ts before =
     every X law m.places m.capacity (ds ++ cs) (ts ++ rs) n few some (series_append X (opened m.places m.capacity) ds ts m cs rs n before s)
 
 module _ {M S P Sym : Type 0} (automaton : AutomatonMeaning M Sym) (shelf : ShelfMeaning S) (policy : PolicyMeaning P) (laws : (m : M) → Proper (automaton.subject m)) where
-  pub series_next : (s j n : Searcher M S P) (cs cs' : List (Request Sym)) (rs rs' : List Reply) (c : Request Sym) (a : Reply) → j.automaton ≡ s.automaton → cs' ≡ cs ++ (c ∷ []) → rs' ≡ rs ++ (a ∷ []) → Called automaton shelf policy j c n a → Series (subject automaton s) (memory shelf policy s) cs rs (memory shelf policy j) → Series (subject automaton s) (memory shelf policy s) cs' rs' (memory shelf policy n)
+  pub series_next : (s j n : Scanner M S P) (cs cs' : List (Request Sym)) (rs rs' : List Reply) (c : Request Sym) (a : Reply) → j.automaton ≡ s.automaton → cs' ≡ cs ++ (c ∷ []) → rs' ≡ rs ++ (a ∷ []) → Called automaton shelf policy j c n a → Series (subject automaton s) (memory shelf policy s) cs rs (memory shelf policy j) → Series (subject automaton s) (memory shelf policy s) cs' rs' (memory shelf policy n)
   series_next s j n cs cs' rs rs' c a e ec er d w =
       let X = subject automaton s in
       let one : Answered X (memory shelf policy j) c (memory shelf policy n) a = subst (λ y. Answered (automaton.subject y.now) (memory shelf policy j) c (memory shelf policy n) a) e d in
       subst (λ y. Series X (memory shelf policy s) y rs' (memory shelf policy n)) (sym ec)
       (subst (λ y. Series X (memory shelf policy s) (cs ++ (c ∷ [])) y (memory shelf policy n)) (sym er) (series_snoc X (memory shelf policy s) cs rs (memory shelf policy j) c a (memory shelf policy n) w one))
 
-  pub lawful_run : (s n : Searcher M S P) (places capacity : ℕ) (cs : List (Request Sym)) (rs : List Reply) (m : M) → s.automaton.now ≡ m → memory shelf policy s ≡ opened places capacity → places ≤ 64 → (0 < places → 0 < capacity) → Series (subject automaton s) (memory shelf policy s) cs rs (memory shelf policy n) → Lawful (automaton.subject m) places capacity cs rs (memory shelf policy n)
+  pub lawful_run : (s n : Scanner M S P) (places capacity : ℕ) (cs : List (Request Sym)) (rs : List Reply) (m : M) → s.automaton.now ≡ m → memory shelf policy s ≡ opened places capacity → places ≤ 64 → (0 < places → 0 < capacity) → Series (subject automaton s) (memory shelf policy s) cs rs (memory shelf policy n) → Lawful (automaton.subject m) places capacity cs rs (memory shelf policy n)
   lawful_run s n places capacity cs rs m e o few some w =
       every (automaton.subject m) (laws m) places capacity cs rs (memory shelf policy n) few some
       (subst (λ y. Series (automaton.subject y) (opened places capacity) cs rs (memory shelf policy n)) e (subst (λ y. Series (subject automaton s) y cs rs (memory shelf policy n)) o w))

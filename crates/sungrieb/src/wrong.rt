@@ -1,6 +1,6 @@
 // Why a line of a script gets no answer of its own.
 use crate::failure::Failure;
-use script::command::Mistake;
+use script::mistake::Mistake;
 use script::hex::HexError;
 use std::{fmt, io};
 

@@ -20,3 +20,6 @@ returns-in-Whole-clause-called g c =
 pub returns-in-Limit-clause-called : goal.returns-in-Limit-clause-called
 returns-in-Limit-clause-called g c =
     made g.M.Automaton g.S.Shelf g.P.Policy c.args.s.now c.limit.new.self (length c.args.entries.now) c.args.call.now _ (λ x. Drops x) (λ x. Dropped x) c.args.entries.now c.limit.result c.map-in-Limit.result (λ x. refl) c.in-Limit.is c.map-in-Limit.ensures.cases (c.limit.ensures.called)
+
+pub returns-in-Clear-clause-called : goal.returns-in-Clear-clause-called
+returns-in-Clear-clause-called g c = rw c.in-Clear.is c.clear.ensures.called
