@@ -1,7 +1,7 @@
 // Why a line of a script gets no answer of its own.
 use crate::failure::Failure;
-use script::mistake::Mistake;
 use script::hex::HexError;
+use script::mistake::Mistake;
 use std::{fmt, io};
 
 // What is wrong with the line, in words for people.
