@@ -47,13 +47,6 @@ impl<'p, M: Automaton, S: Shelf, P: Policy> Scanner<'p, M, S, P> {
         }
     }
 
-    // Is there a symbol to read, and a word that could go on from the set at the place?
-    fn runs_on(&self, row: &Row<'_, M::Symbol>, at: usize, place: u8) -> bool
-        ensures { result ≡ (nat_lt at (length row.now.symbols.now) && not (member self.now.empties place)) }
-    {
-        at < row.symbols.len() && !self.empties.has(place)
-    }
-
     // Reads on while steps are known. Nothing is written here, and a symbol costs one class and one look-up.
     fn run_ahead(&self, row: &Row<'_, M::Symbol>, run: Run<usize>) -> Run<usize>
         requires within { run.at ≤ length row.now.symbols.now }
@@ -67,22 +60,25 @@ impl<'p, M: Automaton, S: Shelf, P: Policy> Scanner<'p, M, S, P> {
         let symbols = row.symbols;
         let mut at = run.at;
         let mut place = run.place;
-        let mut end = run.mark;
+        let mut mark = run.mark;
         let mut met = run.met;
-        while self.runs_on(row, at, place) {
-            let class = self.automaton.class_of(symbols[at]);
+        for i in run.at..symbols.len() {
+            if self.empties.has(place) {
+                break;
+            }
+            let class = self.automaton.class_of(symbols[i]);
             let Some(next) = self.shelf.know(place, class) else {
                 break;
             };
-            at += 1;
+            at = i + 1;
             place = next;
             met = met.with(next);
-            end = end_at(self.ends.has(next), at, end);
+            mark = end_at(self.ends.has(next), at, mark);
         }
         Run {
             at,
             place,
-            mark: end,
+            mark,
             met,
         }
     }

@@ -70,22 +70,22 @@ impl<'p, M: Automaton, S: Shelf, P: Policy> Scanner<'p, M, S, P> {
         let symbols = row.symbols;
         let mut at = run.at;
         let mut place = run.place;
-        let mut start = run.mark;
+        let mut mark = run.mark;
         let mut met = run.met;
-        while at > from {
-            let class = self.automaton.class_of(symbols[at - 1]);
+        for i in (from..run.at).rev() {
+            let class = self.automaton.class_of(symbols[i]);
             let Some(next) = self.shelf.know(place, class) else {
                 break;
             };
-            at -= 1;
+            at = i;
             place = next;
             met = met.with(next);
-            start = start_at(self.begins.has(next), at, start);
+            mark = start_at(self.begins.has(next), i, mark);
         }
         Run {
             at,
             place,
-            mark: start,
+            mark,
             met,
         }
     }
