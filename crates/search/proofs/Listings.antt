@@ -119,8 +119,8 @@ module _ {M S P Sym : Type 0} (automaton : AutomatonMeaning M Sym) (shelf : Shel
 
 -- what a push does to a collector
 
-pub pushed_left : (before after : Collector Span) (x : Span) → before.used ≤ size before → Pushed before after x (Ok tt) → size before - before.used ≡ suc (size after - after.used)
-pushed_left before after x l p =
+pub pushed_left : (before after : Collector Span) (x : Span) → Pushed before after x (Ok tt) → size before - before.used ≡ suc (size after - after.used)
+pushed_left before after x p =
     let lt = ltb-true before.used (size before) (sym p.free) in
     let long : size after ≡ size before = ap length p.written ∙ length-set before.entries.now before.used x in
     omega (arith, p.count)
@@ -136,7 +136,6 @@ pushed_filled first before after x f p =
     let long : size after ≡ size before = ap length p.written ∙ length-set before.entries.now before.used x in
     let used : after.used ≡ before.used + 1 = p.count in
     record {
-      within = omega arith;
       size = long ∙ f.size;
       behind = ap (λ n. drop n after.entries.now) used ∙ ap (drop (before.used + 1)) p.written
           ∙ drop-set-lt _ before.entries.now before.used x (omega arith)
@@ -158,7 +157,6 @@ pub full_filled : (first before after : Collector Span) (x y : Span) → Filled 
 full_filled first before after x y f p =
     let used : after.used ≡ before.used = omega (arith, p.count) in
     record {
-      within = omega (arith, f.within, ap length p.written);
       size = ap length p.written ∙ f.size;
       behind = ap (λ n. drop n after.entries.now) used ∙ ap (drop before.used) p.written ∙ f.behind ∙ ap (λ n. drop n first.entries.now) (sym used);
       lender = p.lender ∙ f.lender;

@@ -102,7 +102,6 @@ pub record Collected {M S P Sym : Type 0} (automaton : AutomatonMeaning M Sym) (
 
 -- a collector keeps its slice, and what lies behind its entries
 pub record Filled (before after : Collector Span) : Type 0 where
-  pub within : after.used ≤ length after.entries.now
   pub size : length after.entries.now ≡ length before.entries.now
   pub behind : drop after.used after.entries.now ≡ drop after.used before.entries.now
   pub lender : after.entries.ghost_name ≡ before.entries.ghost_name

@@ -1,4 +1,4 @@
-ghost use Rattle.std.specs.Prelude.{◌≡◌};
+ghost use Rattle.std.specs.Prelude.{◌≡◌, if◌then◌else◌};
 ghost use Rattle.law.specs.Memory.{allowance, opened, sets_live, steps_known};
 ghost use Rattle.search.specs.Remembered.{memory, Ready};
 
@@ -71,6 +71,13 @@ struct Run<T> {
     place: u8,
     mark: T,
     met: PlaceSet,
+}
+
+// The new mark where the flag is set, else the one so far.
+fn marked<T: Copy>(flag: bool, new: T, so_far: T) -> T
+    ensures { result ≡ (if flag then new else so_far) }
+{
+    if flag { new } else { so_far }
 }
 
 impl<'p, M: Automaton, S: Shelf, P: Policy> Scanner<'p, M, S, P> {

@@ -1,5 +1,5 @@
 // The scan ahead, from a place where a word begins: where the longest one ends.
-ghost use Rattle.std.specs.Prelude.{◌≡◌, ℕ, ◌+◌, ◌-◌, ◌<◌, ◌≤◌, false, not, ◌&&◌, length, if◌then◌else◌, nat_lt};
+ghost use Rattle.std.specs.Prelude.{◌≡◌, ℕ, ◌+◌, ◌-◌, ◌<◌, ◌≤◌, false, not, ◌&&◌, length, nat_lt};
 ghost use Rattle.law.specs.Memory.{Memory};
 ghost use Rattle.sets.specs.Positions.{PositionSet};
 ghost use Rattle.search.specs.Remembered.{memory, subject, Ready};
@@ -12,18 +12,12 @@ ghost use Rattle.search.specs.Scanning.{Aheaded, AheadWithin, RidingAhead, Reach
 
 use crate::counts::Counts;
 use crate::row::Row;
-use crate::scanner::{Cursor, Run, Scan, Scanner};
+use crate::scanner::{Cursor, Run, Scan, Scanner, marked};
 use automaton::Automaton;
 use memory::policy::Policy;
 use memory::shelf::Shelf;
 use sets::PlaceSet;
 use theory::Direction;
-
-fn end_at(ends: bool, at: usize, end: usize) -> usize
-    ensures { result ≡ (if ends then at else end) }
-{
-    if ends { at } else { end }
-}
 
 impl<'p, M: Automaton, S: Shelf, P: Policy> Scanner<'p, M, S, P> {
     // Reads one symbol more.
@@ -42,7 +36,7 @@ impl<'p, M: Automaton, S: Shelf, P: Policy> Scanner<'p, M, S, P> {
         Scan {
             at: at + 1,
             cursor: step.cursor,
-            mark: end_at(ends, at + 1, scan.mark),
+            mark: marked(ends, at + 1, scan.mark),
             counts: scan.counts.plus(step.counts),
         }
     }
@@ -73,7 +67,7 @@ impl<'p, M: Automaton, S: Shelf, P: Policy> Scanner<'p, M, S, P> {
             at = i + 1;
             place = next;
             met = met.with(next);
-            mark = end_at(self.ends.has(next), at, mark);
+            mark = marked(self.ends.has(next), at, mark);
         }
         Run {
             at,

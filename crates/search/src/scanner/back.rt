@@ -1,5 +1,5 @@
 // The scan back, from the record's end: where words begin.
-ghost use Rattle.std.specs.Prelude.{◌≡◌, ℕ, ◌-◌, ◌<◌, ◌≤◌, length, IfSome, if◌then◌else◌, Some};
+ghost use Rattle.std.specs.Prelude.{◌≡◌, ℕ, ◌-◌, ◌<◌, ◌≤◌, length, IfSome};
 ghost use Rattle.law.specs.Memory.{Memory};
 ghost use Rattle.sets.specs.Positions.{PositionSet};
 ghost use Rattle.search.specs.Remembered.{memory, subject, Ready};
@@ -12,18 +12,12 @@ ghost use Rattle.search.specs.Scanning.{Backed, BackWithin, RidingBack};
 
 use crate::counts::Counts;
 use crate::row::Row;
-use crate::scanner::{Cursor, Run, Scan, Scanner};
+use crate::scanner::{Cursor, Run, Scan, Scanner, marked};
 use automaton::Automaton;
 use memory::policy::Policy;
 use memory::shelf::Shelf;
 use sets::PlaceSet;
 use theory::Direction;
-
-fn start_at(begins: bool, at: usize, start: Option<usize>) -> Option<usize>
-    ensures { result ≡ (if begins then Some at else start) }
-{
-    if begins { Some(at) } else { start }
-}
 
 impl<'p, M: Automaton, S: Shelf, P: Policy> Scanner<'p, M, S, P> {
     // Reads one symbol more.
@@ -46,7 +40,7 @@ impl<'p, M: Automaton, S: Shelf, P: Policy> Scanner<'p, M, S, P> {
         Scan {
             at,
             cursor: step.cursor,
-            mark: start_at(begins, at, scan.mark),
+            mark: marked(begins, Some(at), scan.mark),
             counts: scan.counts.plus(step.counts),
         }
     }
@@ -80,7 +74,7 @@ impl<'p, M: Automaton, S: Shelf, P: Policy> Scanner<'p, M, S, P> {
             at = i;
             place = next;
             met = met.with(next);
-            mark = start_at(self.begins.has(next), i, mark);
+            mark = marked(self.begins.has(next), Some(at), mark);
         }
         Run {
             at,

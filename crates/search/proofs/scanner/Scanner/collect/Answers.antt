@@ -14,7 +14,7 @@ loop-span-init g c =
       omega arith,
       c.requires.from,
       bounded_none _ c.default-counts.result none,
-      record { within = omega (arith, c.requires.fresh); size = refl; behind = refl; lender = refl },
+      record { size = refl; behind = refl; lender = refl },
       refl,
       λ ok. listing_begun g.M.Automaton g.S.Shelf g.P.Policy c.args.self.now c.args.row.now.symbols.now (size spans) c.args.from (held spans) (size spans - spans.used) c.default-counts.result
           (ap (λ n. take n spans.entries.now) c.requires.fresh ∙ take_none spans.entries.now) (omega (arith, c.requires.fresh)) none ok,
@@ -42,7 +42,7 @@ loop-span-preserved g c =
           let l = v.5 ok in
           listing_next g.M.Automaton g.S.Shelf g.P.Policy c.loop-span.self c.locate-found.new.self (memory g.S.Shelf g.P.Policy c.args.self.now) c.args.row.now.symbols.now (size c.args.spans.now) from
           (held spans) (held c.push.new.self) (size spans - spans.used) (size c.push.new.self - c.push.new.self.used) at x c.loop-span.counts c.plus-counts.result c.locate-found.result
-          e.automaton c.in-Some.is (pushed_left spans c.push.new.self x v.3.within p) (pushed_held spans c.push.new.self x p) c.plus-counts.ensures (e.located l.ready) l,
+          e.automaton c.in-Some.is (pushed_left spans c.push.new.self x p) (pushed_held spans c.push.new.self x p) c.plus-counts.ensures (e.located l.ready) l,
     )
 
 pub returns-in_default : goal.returns-in_default

@@ -13,11 +13,11 @@ returns g c =
     record {
       aheaded = λ m from live h.
           aheaded_next g.M.Automaton g.S.Shelf g.P.Policy g.met.M.Automaton.proper s step.new.self m r from scan _ c.index-symbols-at.result step.result c.has_last-ends.result
-          step.ensures.kept refl c.requires.more c.index-symbols-at.is step.ensures.moved refl c.has_last-ends.ensures c.end_at.ensures c.plus.ensures live h;
+          step.ensures.kept refl c.requires.more c.index-symbols-at.is step.ensures.moved refl c.has_last-ends.ensures c.marked.ensures c.plus.ensures live h;
       at = refl;
       within = record {
         at = omega (arith, c.requires.more);
-        end = end_within c.has_last-ends.result (scan.at + 1) (length r) scan.mark c.end_at.result c.end_at.ensures (omega (arith, c.requires.more)) w.end;
+        end = end_within c.has_last-ends.result (scan.at + 1) (length r) scan.mark c.marked.result c.marked.ensures (omega (arith, c.requires.more)) w.end;
         counts = bounded_plus scan.at 1 (scan.at + 1) scan.counts step.result.counts c.plus.result refl w.counts step.ensures.small c.plus.ensures;
       };
       automaton = step.ensures.kept.automaton_same;

@@ -13,11 +13,11 @@ returns g c =
     record {
       backed = λ m h.
           backed_next g.M.Automaton g.S.Shelf g.P.Policy g.met.M.Automaton.proper s step.new.self m r scan _ c.index-symbols-at.result step.result c.has_first-begins.result
-          step.ensures.kept (omega (arith, c.requires.more)) (omega (arith, c.requires.more, w.at)) c.index-symbols-at.is step.ensures.moved refl c.has_first-begins.ensures c.start_at.ensures c.plus.ensures h;
+          step.ensures.kept (omega (arith, c.requires.more)) (omega (arith, c.requires.more, w.at)) c.index-symbols-at.is step.ensures.moved refl c.has_first-begins.ensures c.marked.ensures c.plus.ensures h;
       at = refl;
       within = record {
         at = omega (arith, w.at);
-        start = start_within c.has_first-begins.result (scan.at - 1) scan.at (length r) scan.mark c.start_at.result c.start_at.ensures (omega arith) (omega (arith, w.at)) w.start;
+        start = start_within c.has_first-begins.result (scan.at - 1) scan.at (length r) scan.mark c.marked.result c.marked.ensures (omega arith) (omega (arith, w.at)) w.start;
         counts = bounded_plus (length r - scan.at) 1 (length r - (scan.at - 1)) scan.counts step.result.counts c.plus.result (omega (arith, c.requires.more, w.at)) w.counts step.ensures.small c.plus.ensures;
       };
       automaton = step.ensures.kept.automaton_same;

@@ -35,12 +35,12 @@ loop-i-preserved g c =
       omega (arith, v.0, v.1),
       omega arith,
       (λ l. omega (arith, (b.within run.place c.class_of-class.result next (sym known)).2, b.few)),
-      (λ h. end_within ends (at + 1) (length r) run.mark c.end_at-mark.result c.end_at-mark.ensures (omega arith) (v.4 h)),
+      (λ h. end_within ends (at + 1) (length r) run.mark c.marked-mark.result c.marked-mark.ensures (omega arith) (v.4 h)),
       λ m from k h.
           riding_ahead_next g.M.Automaton g.S.Shelf g.P.Policy g.met.M.Automaton.proper s m r from run
-          (record { at = at + 1; place = next; mark = c.end_at-mark.result; met = c.with-met.result })
+          (record { at = at + 1; place = next; mark = c.marked-mark.result; met = c.with-met.result })
           (known_more k (run.at - first)) (known_more k (at + 1 - first)) c.index-symbols-i.result c.class_of-class.result next ends
-          (ap (λ n. n + 1) (sym v.0)) (omega (arith, v.0)) (sym c.has.ensures ∙ c.if-has.false) (c.index-symbols-i.is ∙ ap (λ n. slice_index_or r n c.index-symbols-i.result) (sym v.0)) c.class_of-class.ensures.fits c.class_of-class.ensures.is known refl c.has-in-loop-i.ensures (c.end_at-mark.ensures ∙ ap (λ n. cond ends (n + 1) run.mark) (sym v.0))
+          (ap (λ n. n + 1) (sym v.0)) (omega (arith, v.0)) (sym c.has.ensures ∙ c.if-has.false) (c.index-symbols-i.is ∙ ap (λ n. slice_index_or r n c.index-symbols-i.result) (sym v.0)) c.class_of-class.ensures.fits c.class_of-class.ensures.is known refl c.has-in-loop-i.ensures (c.marked-mark.ensures ∙ ap (λ n. cond ends (n + 1) run.mark) (sym v.0))
           (one_more k (run.at - first) (at + 1 - first) (omega (arith, v.0, v.1))) (v.5 m from k h),
       passed_more run.at at c.index-symbols-i.result v.6 (ap (λ n. n + 1) (sym v.0), sym v.0) c.index-symbols-i.is (ap (g.S.Shelf.steps s.shelf run.place) (sym c.class_of-class.ensures.is) ∙ sym known) c.with-met.ensures,
     )

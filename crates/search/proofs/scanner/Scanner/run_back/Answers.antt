@@ -33,12 +33,12 @@ loop-i-preserved g c =
       omega (arith, v.0),
       omega (arith, v.0, v.2),
       (λ l. omega (arith, (b.within run.place c.class_of-class.result next (sym known)).2, b.few)),
-      (λ n l h. start_within begins i run.at n run.mark c.start_at-mark.result c.start_at-mark.ensures (omega (arith, v.0)) (omega (arith, v.0, v.2)) (v.4 n l h)),
+      (λ n l h. start_within begins i run.at n run.mark c.marked-mark.result c.marked-mark.ensures (omega (arith, v.0)) (omega (arith, v.0, v.2)) (v.4 n l h)),
       λ m k h.
           riding_next g.M.Automaton g.S.Shelf g.P.Policy g.met.M.Automaton.proper s m c.args.row.now.symbols.now run
-          (record { at = i; place = next; mark = c.start_at-mark.result; met = c.with-met.result })
+          (record { at = i; place = next; mark = c.marked-mark.result; met = c.with-met.result })
           (known_more k (first - run.at)) (known_more k (first - i)) c.index-symbols-i.result c.class_of-class.result next begins
-          (omega (arith, v.0)) (omega (arith, v.0, v.2, c.requires.within)) c.index-symbols-i.is c.class_of-class.ensures.fits c.class_of-class.ensures.is known refl c.has.ensures c.start_at-mark.ensures
+          (omega (arith, v.0)) (omega (arith, v.0, v.2, c.requires.within)) c.index-symbols-i.is c.class_of-class.ensures.fits c.class_of-class.ensures.is known refl c.has.ensures c.marked-mark.ensures
           (one_more k (first - run.at) (first - i) (omega (arith, v.0, v.2))) (v.5 m k h),
       passed_more run.at i c.index-symbols-i.result v.6 (omega (arith, v.0), refl) c.index-symbols-i.is (ap (g.S.Shelf.steps s.shelf run.place) (sym c.class_of-class.ensures.is) ∙ sym known) c.with-met.ensures,
     )
