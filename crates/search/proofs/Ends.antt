@@ -120,14 +120,6 @@ module _ {Sym : Type 0} (X : Subject Sym PositionSet) where
 
   -- a find from its two scans
 
-  pub find_none : (r : List Sym) (f : ℕ) → start X.machine f (drop f r) ≡ None → None ≡ find X.machine r f
-  find_none r f e = sym (ap (from_start X.machine r) e)
-
-  pub walk_none : (m n : Memory PositionSet) (r : List Sym) (f : ℕ) (k : Tallies) → start X.machine f (drop f r) ≡ None → Walk X m (back_reads X.machine (drop f r)) n k → Walk X m (find_reads X.machine r f) n k
-  walk_none m n r f k e w =
-      let P : List (Read Sym PositionSet) → Type 0 = λ xs. Walk X m xs n k in
-      subst P (sym (ap (λ o. back_reads X.machine (drop f r) ++ start_reads X.machine r o) e ∙ append-nil (back_reads X.machine (drop f r)))) w
-
   pub find_some : (r : List Sym) (f s e : ℕ) → start X.machine f (drop f r) ≡ Some s → e ≡ far X.machine s s X.machine.begin (drop s r) → Some (record { start = s; end = e }) ≡ find X.machine r f
   find_some r f s e h z = ap (λ y. Some (record { start = s; end = y })) z ∙ sym (ap (from_start X.machine r) h)
 

@@ -16,10 +16,6 @@ bounded_as n k t e a b c d f =
       dropped = omega (arith, ap (λ (t : Tallies). t.dropped) e);
     }
 
-pub low_bounded : (n : ℕ) (k : Counts) → n ≤ 70368744177664 → Bounded n k → Low k
-low_bounded n k l b =
-    record { reads = omega (arith, b.reads); known = omega (arith, b.known); built = omega (arith, b.built); plain = omega (arith, b.plain); dropped = omega (arith, b.dropped) }
-
 pub no_counts : (k : Counts) → (k.reads ≡ 0) × ((k.known ≡ 0) × ((k.built ≡ 0) × ((k.plain ≡ 0) × (k.dropped ≡ 0)))) → tallied k ≡ zeros
 no_counts k e = rw (e.0, e.1.0, e.1.1.0, e.1.1.1.0, e.1.1.1.1)
 
