@@ -56,23 +56,18 @@ impl<'p, M: Automaton, S: Shelf, P: Policy> Scanner<'p, M, S, P> {
             set: target,
             place: there.place,
         };
-        match here.place {
-            None => plain(cursor, gone),
-            Some(p) => match there.place {
-                None => plain(cursor, gone),
-                Some(t) => {
-                    let more = self.note_step(p, class, t);
-                    let counts = Counts {
-                        reads: 1,
-                        known: 0,
-                        built: 1,
-                        plain: 0,
-                        dropped: gone + more,
-                    };
-                    Move { cursor, counts }
-                }
-            },
-        }
+        let (Some(p), Some(t)) = (here.place, there.place) else {
+            return plain(cursor, gone);
+        };
+        let more = self.note_step(p, class, t);
+        let counts = Counts {
+            reads: 1,
+            known: 0,
+            built: 1,
+            plain: 0,
+            dropped: gone + more,
+        };
+        Move { cursor, counts }
     }
 
     // Reads a symbol in the set of a cursor.
