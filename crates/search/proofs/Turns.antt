@@ -4,7 +4,7 @@ use Rattle.std.proofs.lemmas.Bool.{ltb-true}
 use Rattle.theory.specs.declared.Span.{Span}
 use Rattle.law.specs.Reading.{Counts as Tallies, both, zeros}
 use Rattle.search.specs.declared.counts.Counts.{Counts}
-use Rattle.search.specs.Counted.{tallied, known_more, Bounded, Low}
+use Rattle.search.specs.Counted.{tallied, known_more, Bounded}
 
 pub bounded_as : (n : ℕ) (k : Counts) (t : Tallies) → tallied k ≡ t → t.reads ≤ n → t.known ≤ n → t.built ≤ n → t.plain ≤ n → t.dropped ≤ 49152 * n → Bounded n k
 bounded_as n k t e a b c d f =

@@ -62,10 +62,9 @@ impl<'p, M: Automaton, S: Shelf, P: Policy> Scanner<'p, M, S, P> {
         let more = self.note_step(p, class, t);
         let counts = Counts {
             reads: 1,
-            known: 0,
             built: 1,
-            plain: 0,
             dropped: gone + more,
+            ..Counts::default()
         };
         Move { cursor, counts }
     }
@@ -90,9 +89,8 @@ impl<'p, M: Automaton, S: Shelf, P: Policy> Scanner<'p, M, S, P> {
                 let counts = Counts {
                     reads: 1,
                     known: 1,
-                    built: 0,
-                    plain: 0,
                     dropped: here.gone,
+                    ..Counts::default()
                 };
                 let cursor = Cursor {
                     set: self.sets[t as usize],

@@ -1,4 +1,4 @@
-use Rattle.std.proofs.Common.{refl, subst, arith}
+use Rattle.std.proofs.Common.{rules, refl, subst, arith}
 use Rattle.sets.specs.Places.{member}
 use Rattle.law.specs.Memory.{Memory}
 use Rattle.sets.specs.Positions.{PositionSet}
@@ -22,8 +22,8 @@ returns-in-Some g c =
     record {
       moved = λ ready at.
           known_moved (subject g.M.Automaton s) (memory g.S.Shelf g.P.Policy s) h _ (member j.live) (member j.back) j.sets c.args.direction c.args.cursor.set c.args.symbol here.place here.gone c.class_of-class.result w.0 c.in-Some.t _
-          ready.sound f.fits f.is (e.seated at) w.1 (told_policy g.S.Shelf g.P.Policy j q c.touch.ensures.live) w.2 refl refl refl refl;
-      small = record { reads = omega arith; known = omega arith; built = omega arith; plain = omega arith; dropped = omega (arith, e.small) };
+          ready.sound f.fits f.is (e.seated at) w.1 (told_policy g.S.Shelf g.P.Policy j q c.touch.ensures.live) w.2 refl refl refl (search rules);
+      small = record { reads = omega arith; known = omega arith; built = omega (arith, c.default.ensures.1.1.0); plain = omega (arith, c.default.ensures.1.1.1.0); dropped = omega (arith, e.small) };
       kept = kept_then g.M.Automaton g.S.Shelf s j (with_policy j q) e.kept (kept_policy g.M.Automaton g.S.Shelf j q);
       heard = knew j here.place c.in-Some.t e.heard refl (_, (subst (λ x. g.P.Policy.hears j.policy (met x) q) c.single.ensures c.touch.ensures.hears, refl));
     }

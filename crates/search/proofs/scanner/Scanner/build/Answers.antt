@@ -1,4 +1,4 @@
-use Rattle.std.proofs.Common.{◌≡◌, None, ◌⊎◌, sym, refl, inl, inr}
+use Rattle.std.proofs.Common.{rules, ◌≡◌, None, ◌⊎◌, sym, refl, inl, inr}
 use Rattle.search.specs.Remembered.{subject}
 use Rattle.search.proofs.Moves.{plain_moved, built_moved}
 use Rattle.search.proofs.Hearing.{build_plain}
@@ -29,4 +29,4 @@ returns-clause-moved g c =
     let e = c.seat-there.ensures in
     λ m a ok right at u fit cl.
     built_moved (subject g.M.Automaton s) (g.met.M.Automaton.proper s.automaton.now) m _ _ _ c.args.direction c.args.set c.step-target.result a here.place there.place here.gone there.gone c.note_step-more.result c.args.class c.in-Some-Some.p c.in-Some-Some.t _
-    ok fit cl (c.step-target.ensures a fit (sym cl)) at u e.seated c.in-Some-Some.is-0 c.in-Some-Some.is-1 (c.note_step-more.ensures.noted (e.kept.counts right)) refl refl
+    ok fit cl (c.step-target.ensures a fit (sym cl)) at u e.seated c.in-Some-Some.is-0 c.in-Some-Some.is-1 (c.note_step-more.ensures.noted (e.kept.counts right)) refl (search rules)
