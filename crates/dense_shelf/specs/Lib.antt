@@ -1,5 +1,4 @@
 pub mod Rows
 pub mod Sweep
 pub mod Bounded
-pub mod Dense
 pub mod Kept

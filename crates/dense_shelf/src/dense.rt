@@ -2,13 +2,13 @@ ghost use Rattle.std.specs.Prelude.{◌≡◌, ◌+◌, ◌*◌, length};
 ghost use Rattle.sets.specs.Places.{member};
 ghost use Rattle.memory.specs.Steps.{size, nothing, notable, after, without};
 ghost use Rattle.dense_shelf.specs.Bounded.{dense_bounds};
-ghost use Rattle.dense_shelf.specs.Dense.{room_of, map_of, counted};
-ghost use Rattle.dense_shelf.specs.Kept.{Untouched};
+ghost use Rattle.dense_shelf.specs.Kept.{map_in, Untouched};
 ghost use Rattle.dense_shelf.specs.Rows.{rows as served};
 
 use crate::rows::Rows;
 use memory::shelf::Shelf;
 use sets::PlaceSet;
+use std::marker::Model;
 
 // A shelf on lent bytes, 256 for each place: one row of places for each class, and in it the target
 // of each place's step. Only the rows of the classes used so far mean anything, so that emptying
@@ -19,14 +19,25 @@ pub struct DenseShelf<'a> {
     count: usize,
 }
 
+// It means its rows; the count beside them is the size of their map.
+impl<'a> Model for DenseShelf<'a> {
+    ghost use Rattle.dense_shelf.specs.Kept.{counted};
+    ghost use Rattle.dense_shelf.specs.declared.rows.Rows.{Rows};
+
+    ghost Value = { Rows };
+
+    ghost view = { λ s. s.rows };
+
+    ghost invariant = { λ s. counted s.rows s.count };
+}
+
 impl<'a> DenseShelf<'a> {
     // A shelf on the bytes, without a step, whatever the bytes are.
     pub fn new(bytes: &'a mut [u8]) -> DenseShelf<'a>
-        ensures bytes { result.rows.bytes.now ≡ bytes.old }
-        ensures lender { result.rows.bytes.ghost_name ≡ bytes.entry.ghost_name }
-        ensures room { room_of result ≡ served (length bytes.old) }
-        ensures map { map_of result ≡ nothing }
-        ensures sound { counted result }
+        ensures bytes { result.bytes.now ≡ bytes.old }
+        ensures lender { result.bytes.ghost_name ≡ bytes.entry.ghost_name }
+        ensures room { result.places ≡ served (length bytes.old) }
+        ensures map { map_in result ≡ nothing }
     {
         DenseShelf {
             rows: Rows::new(bytes),
@@ -36,15 +47,13 @@ impl<'a> DenseShelf<'a> {
 }
 
 impl<'a> Shelf for DenseShelf<'a> {
-    ghost room = { λ s. room_of s };
+    ghost room = { λ r. r.places };
 
-    ghost most = { λ s. 256 * room_of s };
+    ghost most = { λ r. 256 * r.places };
 
-    ghost steps = { λ s. map_of s };
+    ghost steps = { λ r. map_in r };
 
-    ghost sound = { λ s. counted s };
-
-    ghost bounds = { λ s. dense_bounds s.rows.bytes.now s.rows.places s.rows.used s.rows.few s.rows.low };
+    ghost bounds = { λ r. dense_bounds r.bytes.now r.places r.used r.few r.low };
 
     fn places(&self) -> u8 {
         self.rows.places
@@ -63,23 +72,21 @@ impl<'a> Shelf for DenseShelf<'a> {
     }
 
     fn empty(&mut self)
-        ensures room { room_of self.new ≡ room_of self.old }
-        ensures most { 256 * room_of self.new ≡ 256 * room_of self.old }
-        ensures map { map_of self.new ≡ nothing }
-        ensures sound { counted self.new }
-        ensures untouched { Untouched self.old.rows self.new.rows }
+        ensures room { self.new.places ≡ self.old.places }
+        ensures most { 256 * self.new.places ≡ 256 * self.old.places }
+        ensures map { map_in self.new ≡ nothing }
+        ensures untouched { Untouched self.old self.new }
     {
         self.rows.used = 0;
         self.count = 0;
     }
 
     fn note(&mut self, place: u8, class: u16, target: u8) -> bool
-        ensures room { room_of self.new ≡ room_of self.old }
-        ensures most { 256 * room_of self.new ≡ 256 * room_of self.old }
-        ensures sound { counted self.old → counted self.new }
-        ensures answer { result ≡ notable (room_of self.old) (256 * room_of self.old) (map_of self.old) place class target }
-        ensures map { map_of self.new ≡ after result (map_of self.old) place class target }
-        ensures untouched { Untouched self.old.rows self.new.rows }
+        ensures room { self.new.places ≡ self.old.places }
+        ensures most { 256 * self.new.places ≡ 256 * self.old.places }
+        ensures answer { result ≡ notable self.old.places (256 * self.old.places) (map_in self.old) place class target }
+        ensures map { map_in self.new ≡ after result (map_in self.old) place class target }
+        ensures untouched { Untouched self.old self.new }
     {
         let new = self.rows.note(place, class, target);
         if new {
@@ -89,12 +96,11 @@ impl<'a> Shelf for DenseShelf<'a> {
     }
 
     fn drop_places(&mut self, places: PlaceSet) -> usize
-        ensures room { room_of self.new ≡ room_of self.old }
-        ensures most { 256 * room_of self.new ≡ 256 * room_of self.old }
-        ensures sound { counted self.old → counted self.new }
-        ensures map { map_of self.new ≡ without (map_of self.old) (member places) }
-        ensures answer { result + size (room_of self.new) (map_of self.new) ≡ size (room_of self.old) (map_of self.old) }
-        ensures untouched { Untouched self.old.rows self.new.rows }
+        ensures room { self.new.places ≡ self.old.places }
+        ensures most { 256 * self.new.places ≡ 256 * self.old.places }
+        ensures map { map_in self.new ≡ without (map_in self.old) (member places) }
+        ensures answer { result + size self.new.places (map_in self.new) ≡ size self.old.places (map_in self.old) }
+        ensures untouched { Untouched self.old self.new }
     {
         let gone = self.rows.forget(places);
         self.count = self.count.saturating_sub(gone);

@@ -36,8 +36,6 @@ impl Shelf for PairShelf {
 
     ghost steps = { λ s. pairs s.steps.items };
 
-    ghost sound = { λ _. Unit {0} };
-
     ghost bounds = { λ s. pair_bounds s.steps.items s.low s.ok };
 
     fn places(&self) -> u8 {

@@ -19,7 +19,6 @@ returns c =
     record {
       room = refl;
       most = refl;
-      sound = λ _. tt;
       map = ap pairs e ∙ pairs_kept (member c.args.places) s.steps.items s.ok;
       answer = omega (arith, pairs_size s.steps.items s.ok, pairs_size c.retain.new.self.items (ap distinct e ∙ distinct_kept (member c.args.places) s.steps.items s.ok));
     }
