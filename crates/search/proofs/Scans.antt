@@ -134,7 +134,6 @@ module _ {M S P Sym : Type 0} (automaton : AutomatonMeaning M Sym) (shelf : Shel
   ready_next s s' r k ok =
       record {
         sound = subst (λ y. Sound (automaton.subject y.now) (memory shelf policy s')) (sym k.automaton_same) ok;
-        counts = k.counts r.counts;
         flags = subst (λ y. Flagged (automaton.subject y.now).machine s') (sym k.automaton_same) (k.flags r.flags);
       }
 

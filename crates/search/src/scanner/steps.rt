@@ -28,7 +28,7 @@ impl<'p, M: Automaton, S: Shelf, P: Policy> Scanner<'p, M, S, P> {
 
     // Notes a step; at full capacity every step is dropped before. Says how many were.
     fn note_step(&mut self, place: u8, class: u16, target: u8) -> usize
-        ensures noted { S.Shelf.sound self.old.shelf → Notable (memory S.Shelf P.Policy self.old) place class target → Noted (memory S.Shelf P.Policy self.old) place class target (memory S.Shelf P.Policy self.new) result }
+        ensures noted { Notable (memory S.Shelf P.Policy self.old) place class target → Noted (memory S.Shelf P.Policy self.old) place class target (memory S.Shelf P.Policy self.new) result }
         ensures small { result ≤ 16384 }
         ensures kept { Kept M.Automaton S.Shelf self.old self.new }
         ensures silent { self.new.policy ≡ self.old.policy }
@@ -44,7 +44,7 @@ impl<'p, M: Automaton, S: Shelf, P: Policy> Scanner<'p, M, S, P> {
     // A read that the shelf has no step for, in the set that was seated `here`: the step rule leads on.
     fn build(&mut self, direction: Direction, set: PositionSet, class: u16, here: Seating) -> Move
         requires { here.gone ≤ 16384 }
-        ensures moved { Builds (subject M.Automaton self.old) (S.Shelf.sound self.old.shelf) direction set class here (memory S.Shelf P.Policy self.old) (memory S.Shelf P.Policy self.new) result }
+        ensures moved { Builds (subject M.Automaton self.old) direction set class here (memory S.Shelf P.Policy self.old) (memory S.Shelf P.Policy self.new) result }
         ensures small { Bounded 1 result.counts }
         ensures kept { Kept M.Automaton S.Shelf self.old self.new }
         ensures heard { BuildingHeard S.Shelf P.Policy self.old direction here.place self.new result.cursor }

@@ -38,8 +38,8 @@ returns-in-None g c =
     let b = c.build.ensures in
     record {
       moved = λ ready at.
-          subst (λ y. Builds (g.M.Automaton.subject y.now) (g.S.Shelf.sound j.shelf) c.args.direction c.args.cursor.set c.class_of-class.result here (memory g.S.Shelf g.P.Policy j) (memory g.S.Shelf g.P.Policy c.build.new.self) c.build.result) e.kept.automaton_same b.moved
-          (memory g.S.Shelf g.P.Policy s) c.args.symbol ready.sound (e.kept.counts ready.counts) (e.seated at) c.in-None.ensures.known f.fits f.is;
+          subst (λ y. Builds (g.M.Automaton.subject y.now) c.args.direction c.args.cursor.set c.class_of-class.result here (memory g.S.Shelf g.P.Policy j) (memory g.S.Shelf g.P.Policy c.build.new.self) c.build.result) e.kept.automaton_same b.moved
+          (memory g.S.Shelf g.P.Policy s) c.args.symbol ready.sound (e.seated at) c.in-None.ensures.known f.fits f.is;
       small = b.small;
       kept = kept_then g.M.Automaton g.S.Shelf s j c.build.new.self e.kept b.kept;
       heard = stepped j here.place e.heard b.heard;
