@@ -76,7 +76,7 @@ pub record Ready {M S P Sym : Type 0} (automaton : AutomatonMeaning M Sym) (shel
   pub flags : Flagged (subject automaton s).machine s
 
 -- what every change of a searcher keeps, beside its memory
-pub record Kept {M S P Sym : Type 0} (automaton : AutomatonMeaning M Sym) (shelf : ShelfMeaning S) (before after : Scanner M S P) : Type 0 where
+pub record Kept {M S P Sym : Type 0} (automaton : AutomatonMeaning M Sym) (before after : Scanner M S P) : Type 0 where
   pub automaton_same : after.automaton ≡ before.automaton
   pub flags : Flagged (subject automaton before).machine before → Flagged (subject automaton before).machine after
 

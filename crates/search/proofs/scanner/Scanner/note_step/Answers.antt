@@ -36,9 +36,9 @@ returns g c =
                 (ap (λ y. y.limit) w.self-is)
                 (n.room ∙ room) (n.most ∙ most);
             small = omega (arith, w.gone-is, dropped_small w.drop_places-gone.result (g.S.Shelf.room s.shelf) _ (g.S.Shelf.steps s.shelf) bounds.few d.answer);
-            kept = kept_then g.M.Automaton g.S.Shelf s j (with_shelf j left)
-                (subst (λ y. Kept g.M.Automaton g.S.Shelf s y) (sym w.self-is) (kept_shelf g.M.Automaton g.S.Shelf s w.drop_places-gone.new.self))
-                (kept_shelf g.M.Automaton g.S.Shelf j left);
+            kept = kept_then g.M.Automaton s j (with_shelf j left)
+                (subst (λ y. Kept g.M.Automaton s y) (sym w.self-is) (kept_shelf g.M.Automaton s w.drop_places-gone.new.self))
+                (kept_shelf g.M.Automaton j left);
             silent = ap (λ y. y.policy) w.self-is;
           }
       | else-count-capacity w ↦
@@ -57,9 +57,9 @@ returns g c =
                 (ap (λ y. y.limit) w.self-is)
                 (n.room ∙ room) (n.most ∙ most);
             small = omega (arith, w.gone-is);
-            kept = kept_then g.M.Automaton g.S.Shelf s j (with_shelf j left)
-                (kept_same g.M.Automaton g.S.Shelf s j w.self-is)
-                (kept_shelf g.M.Automaton g.S.Shelf j left);
+            kept = kept_then g.M.Automaton s j (with_shelf j left)
+                (kept_same g.M.Automaton s j w.self-is)
+                (kept_shelf g.M.Automaton j left);
             silent = ap (λ y. y.policy) w.self-is;
           }
     ]
