@@ -5,6 +5,7 @@ use mathlib.Core.Bool.{or-false}
 use Rattle.std.proofs.lemmas.Bool.{cases_lt, lt-ltb, and_right}
 use Rattle.std.proofs.lemmas.List.{get_or-replicate, get_or_past, length-replicate}
 use Rattle.sets.specs.BitSets.{members}
+use Rattle.sets.specs.Lowest.{LowestFrom}
 use Rattle.sets.specs.Members.{Members, none, either, shared, below}
 use Rattle.sets.specs.Positions.{holds, PositionSet}
 use Rattle.sets.proofs.Known.{members_high}
@@ -21,7 +22,7 @@ pub record Upto (last first : Members) (old new : List PositionSet) (p : ℕ) : 
 pub upto_none : (last first : Members) (old : List PositionSet) → length old ≡ 64 → Upto last first old old 0
 upto_none last first old e = record { long = e; done = λ k l. absurd (omega arith); left = λ k l. refl }
 
-pub upto_yes : (last first : Members) (old new : List PositionSet) (p : ℕ) (s : PositionSet) → p < 64 → last p ≡ true → holds s ≡ either (holds (get_or new p blank)) first → Upto last first old new p → Upto last first old (set new p s) (p + 1)
+upto_yes : (last first : Members) (old new : List PositionSet) (p : ℕ) (s : PositionSet) → p < 64 → last p ≡ true → holds s ≡ either (holds (get_or new p blank)) first → Upto last first old new p → Upto last first old (set new p s) (p + 1)
 upto_yes last first old new p s l h e u =
     let here : holds s ≡ (λ q. entry old p q || last p && first q) =
     e ∙ ap (λ r. either (holds r) first) (u.left p (omega arith)) ∙ fun_ext (λ q. ap (λ b. entry old p q || b && first q) (sym h)) in
@@ -34,25 +35,27 @@ upto_yes last first old new p s l h e u =
       left = λ k v. let ne : k ≢ p = omega arith in get_or-set_other new p k s blank ne ∙ u.left k (omega arith);
     }
 
-pub upto_no : (last first : Members) (old new : List PositionSet) (p : ℕ) → last p ≡ false → Upto last first old new p → Upto last first old new (p + 1)
-upto_no last first old new p h u =
+-- rows between that `last` lacks are as they were
+upto_skip : (last first : Members) (old new : List PositionSet) (n p : ℕ) → n ≤ p → ((k : ℕ) → n ≤ k → k < p → last k ≡ false) → Upto last first old new n → Upto last first old new p
+upto_skip last first old new n p l h u =
     record {
       long = u.long;
-      done =
-          below_more (λ k. holds (get_or new k blank) ≡ (λ q. entry old k q || last k && first q)) p u.done
-          (ap holds (u.left p (omega arith)) ∙ fun_ext (λ q. sym (ap (λ b. entry old p q || b && first q) h ∙ or-false (entry old p q))));
+      done = λ k v.
+          ⊎_elim (λ (b : k < n). u.done k b)
+          (λ (b : n ≤ k). ap holds (u.left k b) ∙ fun_ext (λ q. sym (ap (λ x. entry old k q || x && first q) (h k b v) ∙ or-false (entry old k q))))
+          (cases_lt k n);
       left = λ k v. u.left k (omega arith);
     }
+
+pub upto_more : (last first : Members) (old new : List PositionSet) (n p : ℕ) (s : PositionSet) → p < 64 → LowestFrom last n p → holds s ≡ either (holds (get_or new p blank)) first → Upto last first old new n → Upto last first old (set new p s) (p + 1)
+upto_more last first old new n p s l w e u = upto_yes last first old new p s l w.member e (upto_skip last first old new n p w.low w.lower u)
 
 wide : (s : PositionSet) (k : ℕ) → 64 ≤ k → holds s k ≡ false
 wide s k l = members_high s k l
 
-pub upto_all : (last : PositionSet) (first : Members) (old new : List PositionSet) (p : ℕ) → p ≡ 64 → Upto (holds last) first old new p → entry new ≡ link (holds last) first (entry old)
-upto_all last first old new p e u =
-    fun_ext (λ k.
-    ⊎_elim (λ (l : k < 64). u.done k (omega arith))
-    (λ (l : 64 ≤ k). ap holds (u.left k (omega arith)) ∙ fun_ext (λ q. sym (ap (λ b. entry old k q || b && first q) (wide last k l) ∙ or-false (entry old k q))))
-    (cases_lt k 64))
+pub upto_all : (last first : Members) (old new : List PositionSet) (n : ℕ) → ((k : ℕ) → n ≤ k → last k ≡ false) → Upto last first old new n → entry new ≡ link last first (entry old)
+upto_all last first old new n h u =
+    fun_ext (λ k. (upto_skip last first old new n (n + k + 1) (omega arith) (λ j a b. h j a) u).done k (omega arith))
 
 pub blank_none : (k : ℕ) → holds blank k ≡ false
 unfolding members

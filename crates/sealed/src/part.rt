@@ -6,23 +6,12 @@ ghost use Rattle.sealed.specs.Parts.{part_of};
 
 use sets::PositionSet;
 
-// Whether the part is nullable, its first positions and its last ones.
-#[derive(Clone, Copy)]
+// Whether the part is nullable, its first positions and its last ones. The default has no words, and no code makes it.
+#[derive(Clone, Copy, Default)]
 pub struct Part {
     pub nullable: bool,
     pub first: PositionSet,
     pub last: PositionSet,
-}
-
-// A part without words, which no code makes.
-impl Default for Part {
-    fn default() -> Part {
-        Part {
-            nullable: false,
-            first: PositionSet::empty(),
-            last: PositionSet::empty(),
-        }
-    }
 }
 
 impl Part {

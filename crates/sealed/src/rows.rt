@@ -11,10 +11,8 @@ use sets::PositionSet;
 pub fn link_rows(rows: &mut [PositionSet; 64], last: PositionSet, first: PositionSet)
     ensures { entry rows.new ≡ link (holds last) (holds first) (entry rows.old) }
 {
-    for p in 0..64u8 {
-        if last.has(p) {
-            rows[p as usize] = rows[p as usize].union(first);
-        }
+    for p in last {
+        rows[p as usize] = rows[p as usize].union(first);
     }
 }
 
