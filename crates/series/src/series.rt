@@ -73,8 +73,7 @@ pub fn perform<M: Automaton, S: Shelf, P: Policy>(
 {
     let count = calls.len().min(answers.len());
     let mut used = 0;
-    for i in 0..count {
-        let call = &calls[i];
+    for (i, call) in calls[..count].iter().enumerate() {
         let n = share(call, entries.len() - used);
         answers[i] = make(s, call, &mut entries[used..used + n]);
         used += n;
