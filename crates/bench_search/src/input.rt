@@ -1,9 +1,7 @@
 // The files of a run: a pattern's text, a record of bytes, a record of events.
+use alphabet::FromTests;
 use anyhow::anyhow;
-use byte_classes::ByteClasses;
-use byte_notation::Bytes;
-use event_classes::EventCuts;
-use event_notation::Events;
+use items::Notation;
 use reader::Draft;
 use sealed::Sealed;
 use std::fs;
@@ -13,19 +11,17 @@ pub fn bytes(rt: &HostRuntime, path: &str) -> anyhow::Result<Vec<u8>> {
     Ok(fs::read(rt, path)?)
 }
 
-pub fn byte_pattern(rt: &HostRuntime, path: &str) -> anyhow::Result<Sealed<ByteClasses>> {
+// The pattern of a file, read by a notation into an empty draft and sealed.
+pub fn pattern<N: Notation, A: FromTests<Test = N::Test>>(
+    rt: &HostRuntime,
+    path: &str,
+    mut draft: Draft<N::Test>,
+) -> anyhow::Result<Sealed<A>>
+where
+    N::Test: Default,
+{
     let text = bytes(rt, path)?;
-    let mut draft = Draft::new();
-    match draft.read::<Bytes>(text.as_slice()) {
-        Ok(()) => Ok(sealed::seal(draft)),
-        Err(_) => Err(anyhow!("the pattern is refused")),
-    }
-}
-
-pub fn event_pattern(rt: &HostRuntime, path: &str) -> anyhow::Result<Sealed<EventCuts>> {
-    let text = bytes(rt, path)?;
-    let mut draft = Draft::new();
-    match draft.read::<Events>(text.as_slice()) {
+    match draft.read::<N>(text.as_slice()) {
         Ok(()) => Ok(sealed::seal(draft)),
         Err(_) => Err(anyhow!("the pattern is refused")),
     }

@@ -3,11 +3,16 @@ use crate::input;
 use crate::search_work::{Work, time};
 use anyhow::anyhow;
 use automaton::Automaton;
+use byte_classes::ByteClasses;
+use byte_notation::Bytes;
 use dense_shelf::DenseShelf;
+use event_classes::EventCuts;
+use event_notation::Events;
 use memory::policy::Policy;
 use memory::shelf::Shelf;
 use pair_shelf::PairShelf;
 use policies::{Clock, FlushAll};
+use reader::Draft;
 use search::Searcher;
 use std::str::FromStr;
 
@@ -101,12 +106,12 @@ impl<'a> Job<'a> {
     pub fn work(self, rt: &HostRuntime) -> anyhow::Result<()> {
         match self.symbols {
             Symbols::Bytes => {
-                let pattern = input::byte_pattern(rt, self.pattern)?;
+                let pattern = input::pattern::<Bytes, ByteClasses>(rt, self.pattern, Draft::new())?;
                 let record = input::bytes(rt, self.record)?;
                 self.search(rt, &pattern, record.as_slice())
             }
             Symbols::Events => {
-                let pattern = input::event_pattern(rt, self.pattern)?;
+                let pattern = input::pattern::<Events, EventCuts>(rt, self.pattern, Draft::new())?;
                 let record = input::events(rt, self.record)?;
                 self.search(rt, &pattern, record.as_slice())
             }

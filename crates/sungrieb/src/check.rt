@@ -79,13 +79,8 @@ impl Answers for Sheet {
     fn answer(&mut self, number: u64, line: &[u8], out: &mut Out) -> Result<(), Failure> {
         match sheet::parse_entry(line) {
             Ok(None) => Ok(()),
-            Ok(Some(entry)) => {
-                if entry.name.len() == 0 {
-                    return self.note_wrong(number, out);
-                }
-                self.check(entry, out)
-            }
-            Err(_) => self.note_wrong(number, out),
+            Ok(Some(entry)) if !entry.name.is_empty() => self.check(entry, out),
+            Ok(Some(_)) | Err(_) => self.note_wrong(number, out),
         }
     }
 }

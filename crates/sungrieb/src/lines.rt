@@ -25,12 +25,12 @@ pub fn answer_file<A: Answers>(
     answers: &mut A,
     out: &mut Out,
 ) -> Result<(), Failure> {
-    match fs::open(rt, path.as_str()) {
-        Ok(file) => match answer_lines(rt, file, answers, out) {
-            Err(Failure::Input(error)) => Err(Failure::File(path.clone()?, error)),
-            answered => answered,
-        },
-        Err(error) => Err(Failure::File(path.clone()?, error)),
+    let answered = fs::open(rt, path.as_str())
+        .map_err(Failure::Input)
+        .and_then(|file| answer_lines(rt, file, answers, out));
+    match answered {
+        Err(Failure::Input(error)) => Err(Failure::File(path.clone()?, error)),
+        answered => answered,
     }
 }
 
@@ -44,11 +44,13 @@ fn answer_lines<R: Read + Drop, A: Answers>(
     let mut line = Vec::new(rt.alloc());
     for number in 1..u64::MAX {
         line.clear();
-        match input.read_until(b'\n', &mut line) {
-            Ok(0) => break,
-            Ok(_) => answers.answer(number, words::before(line.as_slice(), b'\n'), out)?,
-            Err(error) => return Err(Failure::Input(error)),
+        let read = input
+            .read_until(b'\n', &mut line)
+            .map_err(Failure::Input)?;
+        if read == 0 {
+            break;
         }
+        answers.answer(number, words::before(line.as_slice(), b'\n'), out)?;
         // Whoever waits for an answer before the next line gets it.
         if input.buffer().is_empty() {
             out.flush()?;

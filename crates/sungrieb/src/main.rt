@@ -27,11 +27,7 @@ fn arguments(rt: &HostRuntime) -> Result<Vec<String>, Failure> {
     let Ok(all) = env::args(rt) else {
         return Err(Failure::Usage("an argument is not UTF-8"));
     };
-    let mut words = Vec::new(rt.alloc());
-    for word in all.skip(1) {
-        words.push(word)?;
-    }
-    Ok(words)
+    Ok(all.skip(1).collect(rt.alloc())?)
 }
 
 // Answers a script: the file's, or what comes on standard input.

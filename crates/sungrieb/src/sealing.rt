@@ -118,7 +118,7 @@ impl<A: Alphabet> Counted<A> {
 }
 
 fn show_set(set: PositionSet, out: &mut Out) -> Result<(), Failure> {
-    for p in (0..64u8).filter(|&p| set.has(p)) {
+    for p in set {
         write!(out, " {p}")?;
     }
     Ok(())
