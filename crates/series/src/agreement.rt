@@ -12,12 +12,15 @@ use memory::shelf::Shelf;
 use refusal::Refusal;
 use theory::Span;
 
-// One of two series: the shelf and the policy that its searcher is opened on, and the calls.
+// One of two series: the calls, what is lent for their entries and answers, and the shelf and the policy that its
+// searcher is opened on. What is lent comes first: a clause names what is left there by places, `exit.0` and `exit.1.0`.
 #[derive(Drop)]
-pub struct Side<'c, 'r, T, S, P> {
+pub struct Side<'c, 'r, 'e, T, S, P> {
+    pub entries: &'e mut [Span],
+    pub answers: &'e mut [Result<Answer, Refusal>],
+    pub calls: &'c [Call<'r, T>],
     pub shelf: S,
     pub policy: P,
-    pub calls: &'c [Call<'r, T>],
 }
 
 // Two series of calls for one pattern, each with its searcher.
@@ -32,36 +35,32 @@ pub struct Agreement<'p, M: Automaton, S: Shelf, P: Policy, T: Shelf, Q: Policy>
 // have, the same searches in order come to the same findings, refusals and reads.
 pub fn agree<'p, M: Automaton, S: Shelf, P: Policy, T: Shelf, Q: Policy>(
     automaton: &'p M,
-    first: Side<'_, '_, M::Symbol, S, P>,
-    first_entries: &mut [Span],
-    first_answers: &mut [Result<Answer, Refusal>],
-    second: Side<'_, '_, M::Symbol, T, Q>,
-    second_entries: &mut [Span],
-    second_answers: &mut [Result<Answer, Refusal>],
+    first: Side<'_, '_, '_, M::Symbol, S, P>,
+    second: Side<'_, '_, '_, M::Symbol, T, Q>,
 ) -> Agreement<'p, M, S, P, T, Q>
-    ensures counts { (result.first.made ≡ min (length first.entry.calls.now) (length first_answers.old)) × (result.second.made ≡ min (length second.entry.calls.now) (length second_answers.old)) }
-    ensures first { Lawful (M.Automaton.subject automaton.now) (S.Shelf.room first.entry.shelf) (S.Shelf.most first.entry.shelf) (requests (length first_entries.old) (take result.first.made first.entry.calls.now)) (replies first_entries.new (take result.first.made first.entry.calls.now) (take result.first.made first_answers.new)) (memory S.Shelf P.Policy result.first.searcher) }
-    ensures second { Lawful (M.Automaton.subject automaton.now) (T.Shelf.room second.entry.shelf) (T.Shelf.most second.entry.shelf) (requests (length second_entries.old) (take result.second.made second.entry.calls.now)) (replies second_entries.new (take result.second.made second.entry.calls.now) (take result.second.made second_answers.new)) (memory T.Shelf Q.Policy result.second.searcher) }
-    ensures same { Same (requests (length first_entries.old) (take result.first.made first.entry.calls.now)) (replies first_entries.new (take result.first.made first.entry.calls.now) (take result.first.made first_answers.new)) (requests (length second_entries.old) (take result.second.made second.entry.calls.now)) (replies second_entries.new (take result.second.made second.entry.calls.now) (take result.second.made second_answers.new)) }
+    ensures counts { (result.first.made ≡ min (length first.entry.calls.now) (length first.entry.answers.now)) × (result.second.made ≡ min (length second.entry.calls.now) (length second.entry.answers.now)) }
+    ensures first { Lawful (M.Automaton.subject automaton.now) (S.Shelf.room first.entry.shelf) (S.Shelf.most first.entry.shelf) (requests (length first.entry.entries.now) (take result.first.made first.entry.calls.now)) (replies first.exit.0.now (take result.first.made first.entry.calls.now) (take result.first.made first.exit.1.0.now)) (memory S.Shelf P.Policy result.first.searcher) }
+    ensures second { Lawful (M.Automaton.subject automaton.now) (T.Shelf.room second.entry.shelf) (T.Shelf.most second.entry.shelf) (requests (length second.entry.entries.now) (take result.second.made second.entry.calls.now)) (replies second.exit.0.now (take result.second.made second.entry.calls.now) (take result.second.made second.exit.1.0.now)) (memory T.Shelf Q.Policy result.second.searcher) }
+    ensures same { Same (requests (length first.entry.entries.now) (take result.first.made first.entry.calls.now)) (replies first.exit.0.now (take result.first.made first.entry.calls.now) (take result.first.made first.exit.1.0.now)) (requests (length second.entry.entries.now) (take result.second.made second.entry.calls.now)) (replies second.exit.0.now (take result.second.made second.entry.calls.now) (take result.second.made second.exit.1.0.now)) }
     ensures automaton { (result.first.searcher.automaton ≡ automaton.entry) × (result.second.searcher.automaton ≡ automaton.entry) }
-    ensures spared { Spared result.first.made first.entry.calls.now first_entries.old first_entries.new first_answers.old first_answers.new × Spared result.second.made second.entry.calls.now second_entries.old second_entries.new second_answers.old second_answers.new }
+    ensures spared { Spared result.first.made first.entry.calls.now first.entry.entries.now first.exit.0.now first.entry.answers.now first.exit.1.0.now × Spared result.second.made second.entry.calls.now second.entry.entries.now second.exit.0.now second.entry.answers.now second.exit.1.0.now }
 {
-    let one = run(
-        automaton,
-        first.shelf,
-        first.policy,
-        first.calls,
-        first_entries,
-        first_answers,
-    );
-    let two = run(
-        automaton,
-        second.shelf,
-        second.policy,
-        second.calls,
-        second_entries,
-        second_answers,
-    );
+    let Side {
+        entries,
+        answers,
+        calls,
+        shelf,
+        policy,
+    } = first;
+    let one = run(automaton, shelf, policy, calls, entries, answers);
+    let Side {
+        entries,
+        answers,
+        calls,
+        shelf,
+        policy,
+    } = second;
+    let two = run(automaton, shelf, policy, calls, entries, answers);
     Agreement {
         first: one,
         second: two,
