@@ -87,6 +87,6 @@ column_all rows q n e m =
     (cases_lt p n))
 
 -- the columns as rows
-pub transposed_all : (rows columns : List PositionSet) (n : ℕ) → n ≡ 64 → length columns ≡ 64 → ((k : ℕ) → k < n → holds (get_or columns k blank) ≡ column rows k) → (p q : ℕ) → entry columns q p ≡ entry rows p q
-transposed_all rows columns n e m h p q =
-    ⊎_elim (λ (l : q < n). ap (λ f. f p) (h q l)) (λ (l : n ≤ q). past_none columns q p (omega arith) ∙ sym (wide (get_or rows p blank) q (omega arith))) (cases_lt q n)
+pub transposed_all : (rows columns : List PositionSet) → length columns ≡ 64 → ((k : ℕ) → k < 64 → holds (get_or columns k blank) ≡ column rows k) → (p q : ℕ) → entry columns q p ≡ entry rows p q
+transposed_all rows columns m h p q =
+    ⊎_elim (λ (l : q < 64). ap (λ f. f p) (h q l)) (λ (l : 64 ≤ q). past_none columns q p (omega arith) ∙ sym (wide (get_or rows p blank) q l)) (cases_lt q 64)

@@ -6,6 +6,7 @@ ghost use Rattle.theory.specs.Seal.{link};
 ghost use Rattle.sealed.specs.Tables.{entry, column};
 
 use sets::PositionSet;
+use std::array;
 
 // Each position of `last` is followed by each of `first` too.
 pub fn link_rows(rows: &mut [PositionSet; 64], last: PositionSet, first: PositionSet)
@@ -41,11 +42,7 @@ fn column(rows: &[PositionSet; 64], q: u8) -> PositionSet
 pub fn transposed(rows: &[PositionSet; 64]) -> [PositionSet; 64]
     ensures { (p q : ℕ) → entry result q p ≡ entry rows.now p q }
 {
-    let mut columns = [PositionSet::empty(); 64];
-    for q in 0..64u8 {
-        columns[q as usize] = column(rows, q);
-    }
-    columns
+    array::from_fn(|q| column(rows, q as u8))
 }
 
 // The rows of the members, united.
