@@ -1,6 +1,5 @@
 -- Where a text begins but for blanks.
 use Rattle.std.proofs.Common.{◌≡◌, ◌-◌, ℕ, ◌<◌, true, false, List, [], length, get_or, take, drop, sym, ◌∙◌, arith}
-use Rattle.std.specs.List.{prefix_len}
 use Rattle.std.proofs.lemmas.List.{take_rest, drop_all}
 use Rattle.std.proofs.lemmas.List.Sums.{prefix_len_is}
 use Rattle.script.specs.Words.{blank}

@@ -1,4 +1,4 @@
-pub mod Cut
+mod Split
 pub mod Fronts
 pub mod Kept
 pub mod Reading

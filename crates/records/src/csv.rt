@@ -128,15 +128,11 @@ pub fn read_events(
 {
     out.clear();
     bad.clear();
-    let mut rest = text;
     let mut first = true;
-    let mut number = 0;
-    while !rest.is_empty() {
-        let row = row_of(before(rest, b'\n'), first);
-        number += 1;
-        keep(row, number, out, bad)?;
+    for (i, line) in text.split(|b| *b == b'\n').enumerate() {
+        let row = row_of(line, first);
+        keep(row, i + 1, out, bad)?;
         first = still_first(first, row);
-        rest = behind(rest, b'\n');
     }
     Ok(())
 }

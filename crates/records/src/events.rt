@@ -5,7 +5,6 @@ ghost use Rattle.records.specs.declared.events.EventsError.TheVariants.{NoMemory
 
 use crate::blanks::stripped;
 use script::symbol::parse_event;
-use script::words::{before, behind};
 use std::alloc::AllocFailed;
 use symbols::Event;
 
@@ -29,11 +28,9 @@ pub fn parse_events(text: &[u8], out: &mut Vec<Event>) -> Result<(), EventsError
     ensures { EventsRead text.now out.new.items result }
 {
     out.clear();
-    let mut rest = text;
     let mut number = 0;
-    while !rest.is_empty() {
-        let word = stripped(before(rest, b' '));
-        rest = behind(rest, b' ');
+    for piece in text.split(|b| *b == b' ') {
+        let word = stripped(piece);
         if word.is_empty() {
             continue;
         }

@@ -1,5 +1,5 @@
 -- What a line of a script asks for.
-use Rattle.std.specs.Prelude.{ℕ, Bool, true, false, cond, ◌&&◌, List, [], ◌∷◌, Some, None, Ok, Err, codes, Option, Result, ◌==◌}
+use Rattle.std.specs.Prelude.{ℕ, Bool, true, false, cond, List, [], ◌∷◌, Some, None, Ok, Err, codes, Option, Result, ◌==◌}
 use Rattle.script.specs.Words.{same, up_to, past, trimmed}
 use Rattle.script.specs.Arguments.{number_behind, two_behind, end_behind}
 use Rattle.script.specs.declared.command.Kind.{Kind}

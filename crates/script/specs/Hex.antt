@@ -1,5 +1,5 @@
 -- Bytes that are written with hexadecimal digits, two for each.
-use Rattle.std.specs.Prelude.{◌≡◌, ℕ, ◌+◌, ◌-◌, ◌*◌, Bool, true, false, cond, ◌&&◌, List, [], ◌∷◌, Some, None, Ok, Err, Option, Result, nat_le}
+use Rattle.std.specs.Prelude.{◌≡◌, ℕ, ◌+◌, ◌-◌, ◌*◌, cond, ◌&&◌, List, [], ◌∷◌, Some, None, Ok, Err, Option, Result, nat_le}
 use Rattle.script.specs.declared.hex.HexError.{HexError}
 use Rattle.script.specs.declared.hex.HexError.TheVariants.{NotHex, NoMemory}
 

@@ -1,5 +1,5 @@
 -- Decimal numbers of at most 64 bits.
-use Rattle.std.specs.Prelude.{ℕ, ◌+◌, ◌-◌, ◌*◌, ◌^◌, min, Bool, true, false, cond, ◌&&◌, List, [], ◌∷◌, Some, None, Option, nat_le}
+use Rattle.std.specs.Prelude.{ℕ, ◌+◌, ◌-◌, ◌*◌, ◌^◌, min, cond, ◌&&◌, List, [], ◌∷◌, Some, None, Option, nat_le}
 
 -- the number, or the largest of 64 bits
 abbrev pub clamped : ℕ → ℕ

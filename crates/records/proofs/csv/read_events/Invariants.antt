@@ -1,12 +1,11 @@
-use Rattle.std.proofs.Common.{◌≡◌, ◌+◌, ◌≤◌, length, vec_items}
+use Rattle.std.proofs.Common.{◌≡◌, ◌+◌, vec_items}
 use Rattle.records.specs.Rows.{good_rows, bad_rows, text_rows}
 use Rattle.records.proofs.Kept.{goods, bads}
+use Rattle.records.proofs.Split.{left}
 use Rattle.records.proofs.csv.read_events.Given as goal
 
-abbrev pub invariant-loop-rest : goal.invariant-loop-rest
-invariant-loop-rest l =
-    (l.number + length l.rest ≤ length l.text)
-    × ((goods (vec_items l.out) l.first l.rest ≡ good_rows (text_rows l.text)) × (bads (vec_items l.bad) (l.number + 1) l.first l.rest ≡ bad_rows 1 (text_rows l.text)))
-
-abbrev pub decreases-loop-rest : goal.decreases-loop-rest
-decreases-loop-rest l = length l.rest
+abbrev pub invariant-loop-i : goal.invariant-loop-i
+invariant-loop-i l = record {
+  good : goods (vec_items l.out) l.first (left 10 l.i-iterator.iter) ≡ good_rows (text_rows l.text);
+  bad : bads (vec_items l.bad) (l.i-iterator.count + 1) l.first (left 10 l.i-iterator.iter) ≡ bad_rows 1 (text_rows l.text);
+}
