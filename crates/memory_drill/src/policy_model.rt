@@ -68,7 +68,7 @@ impl PolicyModel {
         for _ in 0..2u8 {
             for d in 0..64u8 {
                 let p = self.hand.wrapping_add(d) & 63;
-                if others.contains(&p) && !self.marks.remove(&p) && chosen.is_empty() {
+                if others.contains(&p) && !self.marks.remove(&p) {
                     chosen.insert(p)?;
                     self.hand = p.wrapping_add(1) & 63;
                     return Ok(chosen);

@@ -2,7 +2,7 @@
 use Rattle.std.proofs.Common.{◌≡◌, ℕ, ◌<◌, ◌≤◌, true, false, Decides, eqb, ap}
 use Rattle.std.proofs.lemmas.Bool.{eqb-true, eq-eqb}
 use Rattle.sets.specs.BitSets.{members, set_of_bits}
-use Rattle.sets.specs.Positions.{PositionSet, alike}
+use Rattle.sets.specs.Positions.{alike}
 use Rattle.sets.specs.declared.bit_set.BitSet.{BitSet}
 use Rattle.sets.proofs.Sets.{mask_low, mask_out}
 
@@ -19,6 +19,6 @@ pub same_bits : {K : Type 0} (s t : BitSet K) → Decides (eqb s.bits t.bits) (s
 same_bits s t = (λ e. ap set_of_bits (eqb-true s.bits t.bits e), λ e. eq-eqb s.bits t.bits (ap (λ x. x.bits) e))
 
 -- `alike` is equality
-pub alike_is : (s t : PositionSet) → Decides (alike s t) (s ≡ t)
+pub alike_is : {K : Type 0} (s t : BitSet K) → Decides (alike s t) (s ≡ t)
 unfolding alike
 alike_is s t = same_bits s t

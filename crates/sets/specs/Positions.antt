@@ -15,5 +15,5 @@ abbrev pub holds : PositionSet → Members
 holds = members
 
 -- are the two one set
-unfoldable pub alike : PositionSet → PositionSet → Bool
+unfoldable pub alike : {K : Type 0} → BitSet K → BitSet K → Bool
 alike s t = s.bits == t.bits

@@ -1,6 +1,7 @@
 ghost use Rattle.std.specs.Prelude.{◌≡◌, ℕ, ◌<◌, ◌≤◌, true, false, Decides, MatchBool, MatchOption, ◌≢◌};
 ghost use Rattle.sets.specs.BitSets.{members};
 ghost use Rattle.sets.specs.Lowest.{LowestFree, LowestFrom};
+ghost use Rattle.sets.specs.Positions.{alike};
 ghost use Rattle.sets.specs.Members.{none, below, plus, except, less, either, shared, Meet, tally};
 
 use std::marker::PhantomData;
@@ -152,5 +153,6 @@ impl<K> BitSet<K> {
 
 // Two sets are equal exactly if they have the same members.
 pub fn equality_stands<K>(_one: BitSet<K>, _other: BitSet<K>)
-    ensures { Decides (⟦<BitSet<K> as PartialEq>⟧.eq _one _other) (members _one ≡ members _other) }
+    ensures value { ⟦<BitSet<K> as PartialEq>⟧.eq _one _other ≡ alike _one _other }
+    ensures members { Decides (⟦<BitSet<K> as PartialEq>⟧.eq _one _other) (members _one ≡ members _other) }
 {}

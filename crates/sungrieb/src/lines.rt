@@ -44,9 +44,7 @@ fn answer_lines<R: Read + Drop, A: Answers>(
     let mut line = Vec::new(rt.alloc());
     for number in 1..u64::MAX {
         line.clear();
-        let read = input
-            .read_until(b'\n', &mut line)
-            .map_err(Failure::Input)?;
+        let read = input.read_until(b'\n', &mut line).map_err(Failure::Input)?;
         if read == 0 {
             break;
         }
