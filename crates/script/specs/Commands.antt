@@ -19,6 +19,9 @@ verb_of w =
     (cond (same w (codes "passes")) (Some Verb.Passes)
     (cond (same w (codes "positions")) (Some Verb.Positions) None)))))
 
+abbrev pub kind_of : List ℕ → Option Kind
+kind_of w = cond (same w (codes "bytes")) (Some Kind.Bytes) (cond (same w (codes "events")) (Some Kind.Events) None)
+
 abbrev pub form : Kind → Bool → Form
 form k h = record { kind = k; hex = h }
 

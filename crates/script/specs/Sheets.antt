@@ -1,13 +1,10 @@
 -- What a line of a run sheet has: a name, a notation and a pattern text, with one space between.
-use Rattle.std.specs.Prelude.{ℕ, cond, List, Some, None, Ok, Err, codes, Option, Result}
-use Rattle.script.specs.Words.{same, up_to, past}
-use Rattle.script.specs.Commands.{passed_over}
+use Rattle.std.specs.Prelude.{ℕ, cond, List, Some, None, Ok, Err, Option, Result}
+use Rattle.script.specs.Words.{up_to, past}
+use Rattle.script.specs.Commands.{kind_of, passed_over}
 use Rattle.script.specs.declared.command.Kind.{Kind}
 use Rattle.script.specs.declared.mistake.Mistake.{Mistake}
 use Rattle.script.specs.declared.sheet.Entry.{Entry}
-
-abbrev pub kind_of : List ℕ → Option Kind
-kind_of w = cond (same w (codes "bytes")) (Some Kind.Bytes) (cond (same w (codes "events")) (Some Kind.Events) None)
 
 pub data Entered : Type 0 where
   nothing : Entered

@@ -1,6 +1,6 @@
 // A line of a script as a command.
 ghost use Rattle.std.specs.Prelude.{◌≡◌};
-ghost use Rattle.script.specs.Commands.{verb_of, form_of, passed_over, asked_pattern, asked_by, asked, told_command, told};
+ghost use Rattle.script.specs.Commands.{verb_of, kind_of, form_of, passed_over, asked_pattern, asked_by, asked, told_command, told};
 
 use crate::arguments::{parse_end, parse_number, parse_two};
 use crate::mistake::Mistake;
@@ -59,15 +59,22 @@ fn verb_of(word: &[u8]) -> Option<Verb>
 }
 
 #[tactic(auto, using(crate::proofs::Same::same_is))]
+pub(crate) fn kind_of(word: &[u8]) -> Option<Kind>
+    ensures { result ≡ kind_of word.now }
+{
+    match word {
+        b"bytes" => Some(Kind::Bytes),
+        b"events" => Some(Kind::Events),
+        _ => None,
+    }
+}
+
 fn form_of(word: &[u8]) -> Option<Form>
     ensures { result ≡ form_of word.now }
 {
-    let (kind, hex) = match word {
-        b"bytes" => (Kind::Bytes, false),
-        b"events" => (Kind::Events, false),
-        b"bytes-hex" => (Kind::Bytes, true),
-        b"events-hex" => (Kind::Events, true),
-        _ => return None,
+    let (kind, hex) = match word.strip_suffix(b"-hex") {
+        Some(kind) => (kind_of(kind)?, true),
+        None => (kind_of(word)?, false),
     };
     Some(Form { kind, hex })
 }

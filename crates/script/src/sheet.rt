@@ -1,8 +1,8 @@
 // A line of a run sheet: a pattern with its name.
 ghost use Rattle.std.specs.Prelude.{◌≡◌};
-ghost use Rattle.script.specs.Sheets.{kind_of, entered, told_entry};
+ghost use Rattle.script.specs.Sheets.{entered, told_entry};
 
-use crate::command::{Kind, is_passed_over};
+use crate::command::{Kind, is_passed_over, kind_of};
 use crate::mistake::Mistake;
 use crate::words::{before, behind};
 
@@ -11,17 +11,6 @@ pub struct Entry<'a> {
     pub name: &'a [u8],
     pub kind: Kind,
     pub text: &'a [u8],
-}
-
-#[tactic(auto, using(crate::proofs::Same::same_is))]
-fn kind_of(word: &[u8]) -> Option<Kind>
-    ensures { result ≡ kind_of word.now }
-{
-    match word {
-        b"bytes" => Some(Kind::Bytes),
-        b"events" => Some(Kind::Events),
-        _ => None,
-    }
 }
 
 // The pattern that the line has, if it is not blank or a comment.
