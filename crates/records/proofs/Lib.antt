@@ -1,4 +1,5 @@
 mod Split
+pub mod Fields
 pub mod Fronts
 pub mod Kept
 pub mod Reading

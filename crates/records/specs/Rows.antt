@@ -1,5 +1,5 @@
 -- Event records as CSV.
-use Rattle.std.specs.Prelude.{ℕ, ◌+◌, Bool, true, false, cond, not, ◌&&◌, List, [], ◌∷◌, ◌++◌, length, Some, None, Ok, Err, Option, Result, nat_le, nat_lt}
+use Rattle.std.specs.Prelude.{◌≡◌, ℕ, ◌+◌, Bool, true, false, cond, not, ◌&&◌, List, [], ◌∷◌, ◌++◌, length, Some, None, Ok, Err, Option, Result, nat_le, nat_lt}
 use Rattle.std.specs.Char.{is_ascii_digit}
 use Rattle.symbols.specs.declared.Event.{Event}
 use Rattle.script.specs.Words.{up_to, past, trimmed}
@@ -23,6 +23,23 @@ field_by f most (x ∷ xs) = number_up_to f most (number_of (x ∷ xs))
 -- a number of at most `most`; blanks around it do not count
 abbrev pub field_of : Field → ℕ → List ℕ → Result ℕ Fault
 field_of f most text = field_by f most (stripped text)
+
+-- a conversion's result, whose own error does not count
+abbrev pub converted : {A E : Type 0} → Field → Result A E → Result A Fault
+converted f (Ok x) = Ok x
+converted f (Err e) = Err (Fault.TooLarge f)
+
+abbrev pub Converts : {A E : Type 0} → (ℕ → Result A E → Type 0) → Field → Option ℕ → Result A Fault → Type 0
+Converts gives f None r = r ≡ Err (Fault.NotANumber f)
+Converts {A = A} {E = E} gives f (Some n) r = (q : Result A E) × gives n q × (r ≡ converted f q)
+
+abbrev pub ReadsBy : {A E : Type 0} → (ℕ → Result A E → Type 0) → Field → List ℕ → Result A Fault → Type 0
+ReadsBy gives f [] r = r ≡ Err (Fault.Missing f)
+ReadsBy gives f (x ∷ xs) r = Converts gives f (number_of (x ∷ xs)) r
+
+-- a number that a conversion takes; blanks around it do not count
+abbrev pub Reads : {A E : Type 0} → (ℕ → Result A E → Type 0) → Field → List ℕ → Result A Fault → Type 0
+Reads gives f text r = ReadsBy gives f (stripped text) r
 
 -- a comma stands in the text
 abbrev pub another : List ℕ → Bool

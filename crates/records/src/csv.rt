@@ -1,11 +1,12 @@
 // Event records as CSV: one event a line, as moment, kind and value.
-ghost use Rattle.std.specs.Prelude.{◌≡◌, ◌≤◌, ◌++◌, IfOk, OnOk};
-ghost use Rattle.records.specs.Rows.{field_of, event_row, header, row_of, still_first, good_in, bad_in, good_rows, bad_rows, text_rows};
+ghost use Rattle.std.specs.Prelude.{◌≡◌, ◌++◌, OnOk};
+ghost use Rattle.records.specs.Rows.{Reads, event_row, header, row_of, still_first, good_in, bad_in, good_rows, bad_rows, text_rows};
 
 use crate::blanks::stripped;
 use script::number::number;
 use script::words::{before, behind, trimmed};
 use std::alloc::AllocError;
+use std::num::TryFromIntError;
 use symbols::Event;
 
 #[derive(Clone, Copy, Debug, PartialEq, Eq)]
@@ -39,19 +40,18 @@ pub struct BadLine {
     pub fault: Fault,
 }
 
-fn parse_field(text: &[u8], field: Field, most: u64) -> Result<u64, Fault>
-    ensures is { result ≡ field_of field most text.now }
-    ensures bound { IfOk result (λ n. n ≤ most) }
+fn parse_field<T: TryFrom<u64, Error = TryFromIntError>>(
+    text: &[u8],
+    field: Field,
+) -> Result<T, Fault>
+    ensures { Reads T.try_from_gives field text.now result }
 {
     let text = stripped(text);
     if text.is_empty() {
         return Err(Fault::Missing(field));
     }
-    match number(text) {
-        Some(n) if n <= most => Ok(n),
-        Some(_) => Err(Fault::TooLarge(field)),
-        None => Err(Fault::NotANumber(field)),
-    }
+    let n = number(text).ok_or(Fault::NotANumber(field))?;
+    T::try_from(n).map_err(|_| Fault::TooLarge(field))
 }
 
 // The event of a line, or the first thing that is wrong with it.
@@ -60,16 +60,16 @@ pub fn parse_row(line: &[u8]) -> Result<Event, Fault>
 {
     let rest = behind(line, b',');
     let last = behind(rest, b',');
-    let moment = parse_field(before(line, b','), Field::Moment, 4_294_967_295)?;
-    let kind = parse_field(before(rest, b','), Field::Kind, 255)?;
-    let value = parse_field(before(last, b','), Field::Value, 65_535)?;
+    let moment = parse_field(before(line, b','), Field::Moment)?;
+    let kind = parse_field(before(rest, b','), Field::Kind)?;
+    let value = parse_field(before(last, b','), Field::Value)?;
     if before(last, b',').len() < last.len() {
         return Err(Fault::Surplus);
     }
     Ok(Event {
-        kind: kind as u8,
-        value: value as u16,
-        moment: moment as u32,
+        kind,
+        value,
+        moment,
     })
 }
 
