@@ -2,3 +2,4 @@ pub mod Asking
 pub mod Filling
 pub mod FromFn
 pub mod Passing
+pub mod Sets

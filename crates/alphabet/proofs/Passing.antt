@@ -2,15 +2,10 @@
 use Rattle.std.proofs.Common.{◌≡◌, ℕ, ◌+◌, ◌-◌, ◌<◌, ◌≤◌, Bool, true, false, ◌&&◌, ◌||◌, eqb, ltb, List, length, get_or, sym, refl, ap, ◌∙◌, ⊎_elim, arith}
 use mathlib.Core.Path.{fun_ext}
 use Rattle.std.proofs.lemmas.Bool.{cases_order, cases_lt, lt-ltb, le-ltb, eq-eqb, ne_eqb, and_right}
-use Rattle.sets.specs.BitSets.{set_of_bits}
 use Rattle.sets.specs.Members.{Members, none, plus, shared, below}
-use Rattle.sets.specs.Positions.{width, PositionSet}
+use Rattle.sets.specs.Positions.{width}
 use Rattle.alphabet.specs.Asked.{asked}
 use Rattle.alphabet.proofs.Asking.{asked_zero, asked_past, asked_at}
-
--- the set that a table's row is where it has none
-abbrev pub blank : PositionSet
-blank = set_of_bits 0
 
 -- those below 64 are all that a set can hold
 pub all_below : (f : Members) (n : ℕ) → n ≡ 64 → shared (below n) f ≡ shared (below width) f

@@ -1,9 +1,10 @@
 // What an alphabet keeps of the tests that it is made from, and which of them pass.
-ghost use Rattle.std.specs.Prelude.{◌≡◌, Bool, take};
+ghost use Rattle.std.specs.Prelude.{◌≡◌, Bool, take, slice_index_or};
 ghost use Rattle.std.specs.Fn.{FnReturnsAt};
 ghost use Rattle.sets.specs.Members.{shared, below};
 ghost use Rattle.sets.specs.Positions.{holds, width};
 ghost use Rattle.alphabet.specs.Asked.{asked};
+ghost use Rattle.alphabet.specs.Sets.{blank};
 
 use arrayvec::ArrayVec;
 use sets::PositionSet;
@@ -31,4 +32,11 @@ pub fn passed<T, F: Fn(&T) -> bool>(tests: &ArrayVec<T, 63>, passes: F) -> Posit
         }
     }
     passed
+}
+
+// The set with the number i; one that is not there is empty.
+pub fn set_at(sets: &[PositionSet], i: usize) -> PositionSet
+    ensures { holds result ≡ holds (slice_index_or sets.now i blank) }
+{
+    sets.get(i).copied().unwrap_or(PositionSet::empty())
 }

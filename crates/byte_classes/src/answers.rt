@@ -9,7 +9,7 @@ ghost use Rattle.symbols.specs.Tests.{passes_byte};
 ghost use Rattle.alphabet.proofs.Asking.{asked_none};
 
 use crate::{ByteClasses, table};
-use alphabet::{Alphabet, FromTests, keep};
+use alphabet::{Alphabet, FromTests, keep, set_at};
 use sets::PositionSet;
 use symbols::ByteTest;
 
@@ -53,11 +53,7 @@ impl Alphabet for ByteClasses {
     }
 
     fn passing(&self, class: u16) -> PositionSet {
-        self.table
-            .passing
-            .get(class as usize)
-            .copied()
-            .unwrap_or(PositionSet::empty())
+        set_at(&self.table.passing, class as usize)
     }
 }
 

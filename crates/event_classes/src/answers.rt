@@ -7,7 +7,7 @@ ghost use Rattle.event_classes.specs.Eventwise.{events_few, code_fits, events_wi
 ghost use Rattle.alphabet.proofs.Asking.{asked_none};
 
 use crate::{EventCuts, table};
-use alphabet::{Alphabet, FromTests, keep};
+use alphabet::{Alphabet, FromTests, keep, set_at};
 use sets::PositionSet;
 use symbols::{Event, EventTest};
 
@@ -56,11 +56,7 @@ impl Alphabet for EventCuts {
     }
 
     fn passing(&self, class: u16) -> PositionSet {
-        self.table
-            .passing
-            .get(class as usize)
-            .copied()
-            .unwrap_or(PositionSet::empty())
+        set_at(&self.table.passing, class as usize)
     }
 }
 

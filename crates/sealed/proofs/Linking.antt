@@ -1,5 +1,5 @@
 -- Rows joined one by one.
-use Rattle.std.proofs.Common.{◌≡◌, ℕ, zero, suc, ◌+◌, ◌<◌, ◌≤◌, true, false, ◌&&◌, ◌||◌, ltb, ◌≢◌, List, [], ◌∷◌, length, get_or, set, replicate, sym, refl, ap, ◌∙◌, ⊎_elim, arith, length-set, get_or-set_other, get_or-set_same, below_more}
+use Rattle.std.proofs.Common.{◌≡◌, ℕ, ◌+◌, ◌<◌, ◌≤◌, true, false, ◌&&◌, ◌||◌, ltb, ◌≢◌, List, length, get_or, set, replicate, sym, refl, ap, ◌∙◌, ⊎_elim, arith, length-set, get_or-set_other, get_or-set_same, below_more}
 use mathlib.Core.Path.{fun_ext}
 use mathlib.Core.Bool.{or-false}
 use Rattle.std.proofs.lemmas.Bool.{cases_lt, lt-ltb, and_right}
@@ -11,7 +11,8 @@ use Rattle.sets.specs.Positions.{holds, PositionSet}
 use Rattle.sets.proofs.Known.{members_high}
 use Rattle.sets.proofs.Sets.{zero_mask}
 use Rattle.theory.specs.Seal.{link}
-use Rattle.sealed.specs.Tables.{blank, entry, column}
+use Rattle.alphabet.specs.Sets.{blank}
+use Rattle.sealed.specs.Tables.{entry, column}
 
 -- the rows below p are linked, and those from p on are as they were
 pub record Upto (last first : Members) (old new : List PositionSet) (p : ℕ) : Type 0 where
@@ -60,12 +61,6 @@ upto_all last first old new n h u =
 pub blank_none : (k : ℕ) → holds blank k ≡ false
 unfolding members
 blank_none k = ap (λ f. f k) (zero_mask 64)
-
--- a row that is not there is empty
-pub row_blank : (rows : List PositionSet) (p : ℕ) (s : PositionSet) → holds s ≡ none → holds (get_or rows p s) ≡ entry rows p
-row_blank [] p s e = e ∙ fun_ext (λ q. sym (blank_none q))
-row_blank (x ∷ rows) zero s e = refl
-row_blank (x ∷ rows) (suc p) s e = row_blank rows p s e
 
 -- a table of empty rows
 pub entry_none : (s : PositionSet) → holds s ≡ none → entry (replicate 64 s) ≡ (λ p q. false)

@@ -17,7 +17,8 @@ use Rattle.sealed.specs.declared.tables.Tables.{Tables}
 use Rattle.sealed.specs.Parts.{part_of}
 use Rattle.sealed.specs.Shown.{Shows, whole}
 use Rattle.sealed.specs.Assembling.{stack, rest, Taken, is_atom, atom_codes}
-use Rattle.sealed.specs.Tables.{blank, entry, following, preceding}
+use Rattle.alphabet.specs.Sets.{blank}
+use Rattle.sealed.specs.Tables.{entry, following, preceding}
 use Rattle.sealed.proofs.Linking.{entry_none}
 
 same_both : (b : Bool) → cond b false false ≡ false

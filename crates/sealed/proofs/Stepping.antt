@@ -16,7 +16,8 @@ use Rattle.theory.proofs.Numbers.{follow_in, no_zero}
 use Rattle.theory.proofs.Answers.{numbered}
 use Rattle.sets.proofs.Known.{members_low, members_high}
 use Rattle.sealed.specs.declared.plan.Plan.{Plan}
-use Rattle.sealed.specs.Tables.{blank, entry, following, preceding}
+use Rattle.alphabet.specs.Sets.{blank}
+use Rattle.sealed.specs.Tables.{entry, following, preceding}
 use Rattle.sealed.specs.Plans.{is_member, codes_of, tree_of, positions_of}
 use Rattle.sealed.proofs.Uniting.{some_none}
 

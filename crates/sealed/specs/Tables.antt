@@ -1,11 +1,8 @@
 -- A table of sets of positions, a row for each position.
 use Rattle.std.specs.Prelude.{ℕ, Bool, cond, List, ◌==◌, slice_index_or}
-use Rattle.sets.specs.BitSets.{set_of_bits}
 use Rattle.sets.specs.Positions.{holds, PositionSet}
 use Rattle.theory.specs.Positions.{Positions}
-
-abbrev pub blank : PositionSet
-blank = set_of_bits 0
+use Rattle.alphabet.specs.Sets.{blank}
 
 -- whether the row p has q
 abbrev pub entry : List PositionSet → ℕ → ℕ → Bool

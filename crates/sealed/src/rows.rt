@@ -5,6 +5,7 @@ ghost use Rattle.theory.specs.Masks.{some};
 ghost use Rattle.theory.specs.Seal.{link};
 ghost use Rattle.sealed.specs.Tables.{entry, column};
 
+use alphabet::set_at;
 use sets::PositionSet;
 use std::array;
 
@@ -21,9 +22,7 @@ pub fn link_rows(rows: &mut [PositionSet; 64], last: PositionSet, first: Positio
 pub fn row(rows: &[PositionSet; 64], p: u8) -> PositionSet
     ensures { holds result ≡ entry rows.now p }
 {
-    rows.get(usize::from(p))
-        .copied()
-        .unwrap_or(PositionSet::empty())
+    set_at(rows, p as usize)
 }
 
 // The rows that have q.

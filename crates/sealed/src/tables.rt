@@ -69,6 +69,6 @@ impl Tables {
         requires { atom_codes codes.now ≤ 63 }
         ensures { Shows (positions (tree codes.now)) result }
     {
-        Tables::assembled(codes).unwrap_or(Tables::none())
+        Tables::assembled(codes).unwrap_or_else(Tables::none)
     }
 }

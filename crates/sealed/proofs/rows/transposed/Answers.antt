@@ -1,7 +1,8 @@
 use Rattle.std.proofs.Common.{◌≡◌, rules}
 use Rattle.sets.specs.Positions.{holds}
 use Rattle.alphabet.proofs.FromFn.{each_made}
-use Rattle.sealed.specs.Tables.{blank, column}
+use Rattle.alphabet.specs.Sets.{blank}
+use Rattle.sealed.specs.Tables.{column}
 use Rattle.sealed.proofs.Linking.{transposed_all}
 use Rattle.sealed.proofs.rows.transposed.Goals as goal
 

@@ -2,7 +2,8 @@ use Rattle.std.proofs.Common.{◌≡◌, ◌+◌, false, length, sym, ap, ◌∙
 use Rattle.pattern.specs.declared.Code.TheVariants.{Atom}
 use Rattle.theory.proofs.Seal.{sealed_is}
 use Rattle.sealed.specs.declared.part.Part.{Part}
-use Rattle.sealed.specs.Tables.{blank, entry}
+use Rattle.alphabet.specs.Sets.{blank}
+use Rattle.sealed.specs.Tables.{entry}
 use Rattle.sealed.proofs.Showing.{shows_codes, one_left, no_tables, atoms_more, rest_more, rest_none, rest_all}
 use Rattle.sealed.proofs.tables.Tables.assembled.Goals as goal
 
