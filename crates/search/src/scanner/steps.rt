@@ -20,10 +20,7 @@ impl<'p, M: Automaton, S: Shelf, P: Policy> Scanner<'p, M, S, P> {
         ensures known { MatchOption result (Unknown (memory S.Shelf P.Policy self.now) place class) (λ t. (p : ℕ) × (place ≡ Some p) × (S.Shelf.steps self.now.shelf p class ≡ Some t)) }
         ensures low { IfSome result (λ t. t < 64) }
     {
-        match place {
-            None => None,
-            Some(p) => self.shelf.know(p, class),
-        }
+        self.shelf.know(place?, class)
     }
 
     // Notes a step; at full capacity every step is dropped before. Says how many were.
