@@ -17,14 +17,6 @@ use Rattle.search.specs.Counted.{tallied}
 use Rattle.search.specs.Remembered.{no_set, state, lives, Notable, Moved}
 use Rattle.search.proofs.Views.{is_here}
 
-pub known_of : (m : Memory PositionSet) (place : Option ℕ) (p c : ℕ) (o : Option ℕ) → place ≡ Some p → o ≡ m.known p c → MatchOption o (Unknown m place c) (λ t. (p' : ℕ) × (place ≡ Some p') × (m.known p' c ≡ Some t))
-known_of m place p c None e h = let P : Option ℕ → Type 0 = λ x. Unknown m x c in subst P (sym e) (sym h)
-known_of m place p c (Some q) e h = (p, e, sym h)
-
-pub low_of : (n m : ℕ) (f : Map) (p c : ℕ) (o : Option ℕ) → Bounds n m f → o ≡ f p c → IfSome o (λ t. t < 64)
-low_of n m f p c None b h = tt
-low_of n m f p c (Some q) b h = omega (arith, (b.within p c q (sym h)).2, b.few)
-
 pub gone_of : (gone r n n' k : ℕ) (f f' : Map) → gone ≡ r → n' ≡ n → f ≡ f' → r + size n' f' ≡ k → gone + size n f ≡ k
 gone_of gone r n n' k f f' e a b z = rw (e, sym a, b) z
 
