@@ -1,8 +1,8 @@
 -- One read, put together from its seatings.
-use Rattle.std.proofs.Common.{◌≡◌, ℕ, ◌+◌, ◌<◌, true, ◌⊎◌, List, get_or, IfSome, Some, None, Option, sym, refl, ap, ◌∙◌, subst, arith, MatchOption}
+use Rattle.std.proofs.Common.{◌≡◌, ℕ, ◌+◌, ◌<◌, true, ◌⊎◌, List, get_or, Some, None, Option, sym, refl, ap, ◌∙◌, subst, arith}
 use Rattle.sets.specs.Members.{Members}
 use Rattle.sets.specs.Positions.{PositionSet}
-use Rattle.memory.specs.Steps.{Map, Bounds, size}
+use Rattle.memory.specs.Steps.{Map, size}
 use Rattle.theory.specs.declared.Direction.{Direction}
 use Rattle.theory.specs.Reads.{State}
 use Rattle.law.specs.Subject.{Subject, leads, Proper}
