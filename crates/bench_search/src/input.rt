@@ -16,10 +16,7 @@ pub fn pattern<N: Notation, A: FromTests<Test = N::Test>>(
     rt: &HostRuntime,
     path: &str,
     mut draft: Draft<N::Test>,
-) -> anyhow::Result<Sealed<A>>
-where
-    N::Test: Default,
-{
+) -> anyhow::Result<Sealed<A>> {
     let text = bytes(rt, path)?;
     match draft.read::<N>(text.as_slice()) {
         Ok(()) => Ok(sealed::seal(draft)),

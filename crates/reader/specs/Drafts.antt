@@ -5,7 +5,7 @@ use Rattle.pattern.specs.declared.Code.{Code}
 use Rattle.reader.specs.declared.draft.Draft.{Draft}
 
 abbrev pub tests_of : {T : Type 0} → Draft T → List T
-tests_of d = d.tests.items
+tests_of d = take d.atoms d.tests
 
 abbrev pub codes_of : {T : Type 0} → Draft T → List Code
 codes_of d = take d.used d.codes

@@ -1,8 +1,7 @@
 // The draft of a pattern: the tests of its atoms, in text order, and its codes in postfix order.
-ghost use Rattle.std.specs.Prelude.{◌≤◌};
+ghost use Rattle.std.specs.Prelude.{◌≡◌, ◌≤◌, length};
 
 use super::limits::{MOST_ATOMS, MOST_CODES};
-use arrayvec::ArrayVec;
 use pattern::Code;
 
 mod contents;
@@ -11,8 +10,10 @@ mod reading;
 
 #[derive(Drop)]
 pub struct Draft<T> {
-    tests: ArrayVec<T, MOST_ATOMS>,
+    tests: [T; MOST_ATOMS],
+    atoms: usize,
     codes: [Code; MOST_CODES],
     used: usize,
-    ghost count: { used ≤ 1023 },
+    ghost counts: { (atoms ≤ 63) × (used ≤ 1023) },
+    ghost tables: { (length tests ≡ 63) × (length codes ≡ 1023) },
 }

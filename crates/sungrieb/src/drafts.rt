@@ -16,8 +16,8 @@ pub struct Drafts {
 impl Drafts {
     pub fn new() -> Drafts {
         Drafts {
-            bytes: Draft::new(),
-            events: Draft::new(),
+            bytes: Draft::default(),
+            events: Draft::default(),
             last: Kind::Bytes,
         }
     }

@@ -3,46 +3,28 @@ ghost use Rattle.std.specs.Prelude.{◌≡◌, ◌≤◌, [], ◌∷◌, ◌++�
 ghost use Rattle.reader.specs.Drafts.{tests_of, codes_of, numbered};
 
 use super::Draft;
-use crate::limits::MOST_CODES;
-use arrayvec::ArrayVec;
+use crate::limits::{MOST_ATOMS, MOST_CODES};
 use pattern::Code;
 
-impl<T: Copy + Default> Draft<T> {
-    // An empty draft.
-    pub fn new() -> Draft<T>
+impl<T: Copy> Draft<T> {
+    // An empty draft; `blank` fills the entries that no test has taken.
+    pub fn new(blank: T) -> Draft<T>
         ensures tests { tests_of result ≡ [] }
         ensures codes { codes_of result ≡ [] }
     {
         Draft {
-            tests: ArrayVec::new(),
+            tests: [blank; MOST_ATOMS],
+            atoms: 0,
             codes: [Code::Atom; MOST_CODES],
             used: 0,
         }
     }
 
-    pub(super) fn clear(&mut self)
-        ensures tests { tests_of self.new ≡ [] }
-        ensures codes { codes_of self.new ≡ [] }
-    {
-        self.tests.clear();
-        self.used = 0;
-    }
-}
-
-impl<T: Copy + Default> Default for Draft<T> {
-    ghost is_default = { λ d. (tests_of d ≡ []) × (codes_of d ≡ []) };
-
-    fn default() -> Draft<T> {
-        Draft::new()
-    }
-}
-
-impl<T: Copy> Draft<T> {
     // How many atoms the pattern has.
     pub fn atoms(&self) -> usize
         ensures { result ≡ length (tests_of self.now) }
     {
-        self.tests.len()
+        self.tests().len()
     }
 
     // The test of atom k; atoms are numbered from 1.
@@ -56,7 +38,7 @@ impl<T: Copy> Draft<T> {
         ensures all { result.now ≡ tests_of self.now }
         ensures few { length result.now ≤ 63 }
     {
-        self.tests.as_slice()
+        &self.tests[..self.atoms]
     }
 
     pub fn codes(&self) -> &[Code]
@@ -65,10 +47,29 @@ impl<T: Copy> Draft<T> {
         &self.codes[..self.used]
     }
 
+    pub(super) fn clear(&mut self)
+        ensures tests { tests_of self.new ≡ [] }
+        ensures codes { codes_of self.new ≡ [] }
+    {
+        self.atoms = 0;
+        self.used = 0;
+    }
+
     // Keeps one test more; one past the last entry is let go.
     pub(super) fn keep(&mut self, test: T)
         ensures { tests_of self.new ≡ take 63 (tests_of self.old ++ test ∷ []) }
     {
-        let _ = self.tests.try_push(test);
+        if self.atoms < MOST_ATOMS {
+            self.tests[self.atoms] = test;
+            self.atoms += 1;
+        }
+    }
+}
+
+impl<T: Copy + Default> Default for Draft<T> {
+    ghost is_default = { λ d. (tests_of d ≡ []) × (codes_of d ≡ []) };
+
+    fn default() -> Draft<T> {
+        Draft::new(T::default())
     }
 }

@@ -9,7 +9,7 @@ use collector::Collector;
 use items::{Item, Notation, Placed, Token};
 use refusal::Refusal;
 
-impl<T: Copy + Default> Draft<T> {
+impl<T: Copy> Draft<T> {
     // Takes in the whole text and answers how many items it has, or says what is refused first.
     pub(super) fn lex<N: Notation<Test = T>>(
         &mut self,

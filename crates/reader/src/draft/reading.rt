@@ -13,7 +13,7 @@ use grammar::read_pattern;
 use items::{Item, Notation, Placed};
 use refusal::{Cause, Refusal};
 
-impl<T: Copy + Default> Draft<T> {
+impl<T: Copy> Draft<T> {
     // Fills the draft anew with the pattern that the text has in the notation. A refusal leaves it empty.
     pub fn read<N: Notation<Test = T>>(&mut self, text: &[u8]) -> Result<(), Refusal>
         ensures answer { result ≡ answer (reading N.Notation.lexed text.now) }
