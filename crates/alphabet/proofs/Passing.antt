@@ -74,3 +74,14 @@ gather_all f ts i e few = fun_ext (λ k. past f ts i k e few)
 pub held : (f : Members) (n k : ℕ) → n ≤ 63 → ((j : ℕ) → n < j → f j ≡ false) → shared (below width) f k ≡ f k
 held f n k few h =
     ⊎_elim (λ (l : k < 64). ap (λ x. x && f k) (lt-ltb k 64 l)) (λ (l : 64 ≤ k). and_right (ltb k 64) (f k) (h k (omega arith)) ∙ sym (h k (omega arith))) (cases_lt k 64)
+
+-- what is answered to a number is what is answered to the number that it is
+pub asked_by : (s : Members) (b : Bool) (i k : ℕ) → b ≡ s i → i ≡ k → b ≡ s k
+asked_by s b i k h e = h ∙ ap s e
+
+-- what a known class answers, and one that is not there
+pub passing_known : (f g s : Members) → ((k : ℕ) → f k ≡ g k) → ((k : ℕ) → s k ≡ shared (below width) f k) → s ≡ shared (below width) g
+passing_known f g s e h = fun_ext (λ k. h k ∙ ap (λ x. ltb k width && x) (e k))
+
+pub passing_none : (g : Members) → ((k : ℕ) → g k ≡ false) → none ≡ shared (below width) g
+passing_none g h = fun_ext (λ k. sym (and_right (ltb k width) (g k) (h k)))

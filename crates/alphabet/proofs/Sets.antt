@@ -18,6 +18,10 @@ at_blank [] i s e = e ∙ sym blank_none
 at_blank (x ∷ sets) zero s e = refl
 at_blank (x ∷ sets) (suc i) s e = at_blank sets i s e
 
+-- what is read at a place is what stands at the place that it is
+pub at_place : (sets : List PositionSet) (i c : ℕ) (s : Members) → s ≡ holds (get_or sets i blank) → i ≡ c → s ≡ holds (get_or sets c blank)
+at_place sets i c s h e = h ∙ ap (λ k. holds (get_or sets k blank)) e
+
 -- the sets that classes pass, where the classes are those of the table
 pub at_class : (sets : List PositionSet) (n c : ℕ) (f : Members) → length sets ≡ n → (c < n → (k : ℕ) → holds (get_or sets c blank) k ≡ shared (below width) f k) → holds (get_or sets c blank) ≡ shared (below width) (λ k. ltb c n && f k)
 at_class sets n c f e h = fun_ext (λ k.

@@ -1,5 +1,5 @@
 // What an alphabet keeps of the tests that it is made from, and which of them pass.
-ghost use Rattle.std.specs.Prelude.{◌≡◌, Bool, take, slice_index_or};
+ghost use Rattle.std.specs.Prelude.{◌≡◌, ◌≤◌, Bool, length, take, slice_index_or};
 ghost use Rattle.std.specs.Fn.{FnReturnsAt};
 ghost use Rattle.sets.specs.Members.{shared, below};
 ghost use Rattle.sets.specs.Positions.{holds, width};
@@ -9,8 +9,20 @@ ghost use Rattle.alphabet.specs.Sets.{blank};
 use arrayvec::ArrayVec;
 use sets::PositionSet;
 
+// Copies as many of the tests as there is room for, and says how many they are.
+pub fn keep<T: Copy>(own: &mut [T], tests: &[T]) -> usize
+    ensures few { result ≤ length own.old }
+    ensures same { take result own.new ≡ take (length own.old) tests.now }
+{
+    let used = tests.len().min(own.len());
+    for i in 0..used {
+        own[i] = tests[i];
+    }
+    used
+}
+
 // The first 63 tests, one for each number that a set of positions can hold beside 0.
-pub fn keep<T: Copy + Default>(tests: &[T]) -> ArrayVec<T, 63>
+pub fn kept_tests<T: Copy + Default>(tests: &[T]) -> ArrayVec<T, 63>
     ensures { result.items ≡ take 63 tests.now }
 {
     let mut kept = ArrayVec::new();

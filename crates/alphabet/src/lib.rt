@@ -8,7 +8,7 @@ ghost use Rattle.sets.specs.Positions.{holds, width};
 
 mod kept;
 
-pub use kept::{keep, passed, set_at};
+pub use kept::{keep, kept_tests, passed, set_at};
 use sets::PositionSet;
 
 pub trait Alphabet {

@@ -9,7 +9,7 @@ ghost use Rattle.symbols.specs.Tests.{passes_byte};
 ghost use Rattle.alphabet.proofs.Asking.{asked_none};
 
 use crate::{ByteClasses, table};
-use alphabet::{Alphabet, FromTests, keep, set_at};
+use alphabet::{Alphabet, FromTests, kept_tests, set_at};
 use sets::PositionSet;
 use symbols::ByteTest;
 
@@ -66,7 +66,7 @@ impl FromTests for ByteClasses {
         ensures tests { byte_tests result ≡ take 63 tests.now }
         ensures law { Classified (byte_tests result) }
     {
-        let tests = keep(tests);
+        let tests = kept_tests(tests);
         let table = table::tabulate(&tests);
         ByteClasses { tests, table }
     }

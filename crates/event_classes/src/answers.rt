@@ -7,7 +7,7 @@ ghost use Rattle.event_classes.specs.Eventwise.{events_few, code_fits, events_wi
 ghost use Rattle.alphabet.proofs.Asking.{asked_none};
 
 use crate::{EventCuts, table};
-use alphabet::{Alphabet, FromTests, keep, set_at};
+use alphabet::{Alphabet, FromTests, kept_tests, set_at};
 use sets::PositionSet;
 use symbols::{Event, EventTest};
 
@@ -69,7 +69,7 @@ impl FromTests for EventCuts {
         ensures tests { event_tests result ≡ take 63 tests.now }
         ensures law { Cut (event_tests result) }
     {
-        let tests = keep(tests);
+        let tests = kept_tests(tests);
         let table = table::tabulate(&tests);
         EventCuts { tests, table }
     }

@@ -1,5 +1,5 @@
 use Rattle.std.proofs.Common.{◌≡◌, ◌≤◌, length, take}
 use Rattle.alphabet.proofs.kept.keep.Given as goal
 
-abbrev pub invariant-loop-test : goal.invariant-loop-test
-invariant-loop-test g l = (length l.kept.items ≤ l.test-index) × (l.kept.items ≡ take l.test-index l.tests)
+abbrev pub invariant-loop-i : goal.invariant-loop-i
+invariant-loop-i g l = (l.used ≤ length l.own) × (take l.i l.own ≡ take l.i l.tests)
