@@ -78,6 +78,9 @@ pub record Filled (ts : List ByteTest) (b : ℕ) (class : List ℕ) (passing : L
 pub filled_none : (ts : List ByteTest) (class : List ℕ) → length class ≡ 256 → Filled ts 0 class []
 filled_none ts class l = record { long = l; few = omega arith; leaders = sym (how_many_zero _); classed = λ x u. absurd (omega arith); told = λ c d u. absurd (omega arith) }
 
+pub filled_at : (ts : List ByteTest) (b : ℕ) (class class' : List ℕ) (passing passing' : List PositionSet) → class' ≡ class → passing' ≡ passing → Filled ts b class passing → Filled ts b class' passing'
+filled_at ts b class class' passing passing' e f h = rw (e, f) h
+
 -- a byte that leads begins a class
 pub filled_new : (ts : List ByteTest) (b : ℕ) (s : PositionSet) (class class' : List ℕ) (passing passing' : List PositionSet) → b < 256 → smallest (alike ts) b ≡ b → holds s ≡ passed_byte ts b → Filled ts b class passing → class' ≡ set class b (length passing) → passing' ≡ passing ++ s ∷ [] → Filled ts (b + 1) class' passing'
 filled_new ts b s class class' passing passing' l e g h i j =

@@ -77,3 +77,7 @@ bytes_untested ts c k h = and_right (nat_lt c (byte_classes ts)) (byte_passes ts
 
 pub bytes_unclassed : (ts : List ByteTest) (c k : ℕ) → byte_classes ts ≤ c → byte_accepts ts c k ≡ false
 bytes_unclassed ts c k l = and_left (nat_lt c (byte_classes ts)) (byte_passes ts k (member (alike ts) 256 c)) (le-ltb c (byte_classes ts) l)
+
+-- a class answers as its smallest byte does
+pub bytes_answer : (ts : List ByteTest) (c k s : ℕ) → c < byte_classes ts → s ≡ member (alike ts) 256 c → byte_passes ts k s ≡ byte_accepts ts c k
+bytes_answer ts c k s l e = ap (byte_passes ts k) e ∙ sym (ap (λ x. x && byte_passes ts k (member (alike ts) 256 c)) (lt-ltb c (byte_classes ts) l))
