@@ -4,11 +4,11 @@ use Rattle.std.specs.List.{insert}
 use Rattle.std.specs.List.Sorted.{IsNonDecreasing, IsPartitionPoint, IsBinarySearchResult}
 use Rattle.std.specs.Ordering.{nat_cmp}
 use Rattle.std.proofs.lemmas.Bool.{cases_lt, lt-leb, le-leb, both_ways}
-use Rattle.std.proofs.lemmas.List.{get_or-drop, get_or-take, at_drop_more, length-take, length-drop}
+use Rattle.std.proofs.lemmas.List.{get_or-drop, get_or-take, at_drop_more, at_drop_all, length-take, length-drop}
 use Rattle.std.proofs.lemmas.List.Sorted.{IsNonDecreasingBy-from_default, searched}
 use Rattle.symbols.specs.declared.EventTest.{EventTest}
 use Rattle.event_classes.specs.Cuts.{cut, cut_by, cuts, at_or_below, Ascending}
-use Rattle.event_classes.specs.Cutting.{count_le, count_below, count_above, count_mono, placed_old, placed_new, at_among, among_at, at_most, cut_in, cut_out, by_ascending}
+use Rattle.event_classes.specs.Cutting.{count_le, count_below, count_above, count_mono, placed_old, placed_new, at_among, among_at, at_most, cut_in, cut_out, cut_ascending, by_ascending}
 use Rattle.event_classes.specs.declared.table.KindClasses.{KindClasses}
 use Rattle.event_classes.specs.Tables.{KindsRight}
 
@@ -51,6 +51,19 @@ cut_behind high code cs e =
 pub cut_more : (ts : List EventTest) (i code : ℕ) (d : EventTest) (cs low high whole : List ℕ) → i < length ts → cut_by (drop i ts) cs ≡ whole → low ≡ cut (get_or ts i d).low cs → code ≡ min ((get_or ts i d).high + 1) (2 ^ 32 - 1) → high ≡ cut code low → cut_by (drop (i + 1) ts) high ≡ whole
 cut_more ts i code d cs low high whole l h e s f =
     ap (cut_by (drop (i + 1) ts)) (f ∙ cut_behind (get_or ts i d).high code low s ∙ ap (cut ((get_or ts i d).high + 1)) e) ∙ sym (at_drop_more (λ us. cut_by us cs) ts i d l) ∙ h
+
+pub cut_none : (ts : List EventTest) (i : ℕ) (cs whole : List ℕ) → length ts ≤ i → cut_by (drop i ts) cs ≡ whole → cs ≡ whole
+cut_none ts i cs whole l h = sym (at_drop_all (λ us. cut_by us cs) ts i l) ∙ h
+
+-- cuts ascend, one by one and all together
+pub ascending_low : (ts : List EventTest) (i : ℕ) (d : EventTest) (cs low : List ℕ) → Ascending cs → low ≡ cut (get_or ts i d).low cs → Ascending low
+ascending_low ts i d cs low h e = rw e (cut_ascending (get_or ts i d).low cs h)
+
+pub ascending_high : (ts : List EventTest) (i : ℕ) (d : EventTest) (cs high : List ℕ) → Ascending cs → high ≡ cut ((get_or ts i d).high + 1) cs → Ascending high
+ascending_high ts i d cs high h e = rw e (cut_ascending ((get_or ts i d).high + 1) cs h)
+
+pub ascending_cuts : (ts : List EventTest) (cs : List ℕ) → cs ≡ cuts ts → Ascending cs
+ascending_cuts ts cs e = rw e (by_ascending ts [] tt)
 
 -- the number of cuts at or below a code, counted between two numbers
 pub rank_within : (code low n r : ℕ) (ds cs part : List ℕ) → Ascending cs → low ≤ at_or_below code cs → at_or_below code cs ≤ low + n → low + n ≤ length cs → ds ≡ cs → part ≡ take n (drop low ds) → r ≤ n → IsPartitionPoint (λ y. leb y code ≡ true) (λ y. leb y code ≡ false) part r → low + r ≡ at_or_below code cs

@@ -143,6 +143,13 @@ placed_only z x (y ∷ ys) h =
     ⊎_elim (λ (e : z ≡ y). inr (inl e)) (λ (m : Among z (placed x ys)). ⊎_elim (λ (e : z ≡ x). inl e) (λ (n : Among z ys). inr (inr n)) (placed_only z x ys m)) k))
     (cases_order x y)
 
+-- what one cut says of the number of cuts at or below a code
+pub rank_above : (code : ℕ) (cs : List ℕ) → Ascending cs → (i : ℕ) → i < length cs → slice_index cs i ≤ code → i < at_or_below code cs
+rank_above code cs h i u l = among_counted code (slice_index cs i) cs h l i u refl
+
+pub rank_below : (code : ℕ) (cs : List ℕ) → Ascending cs → (i : ℕ) → code < slice_index cs i → at_or_below code cs ≤ i
+rank_below code cs h i l = ⊎_elim (λ (v : i < at_or_below code cs). absurd (omega (arith, count_below code cs h i v))) (λ v. v) (cases_lt i (at_or_below code cs))
+
 -- a cut that is there stays, and one that is new comes behind those at or below it
 all_among : (y x : ℕ) (ys : List ℕ) → AllByRecursion (λ z. y < z) ys → Among x ys → y < x
 all_among y x [] h m = absurd m
@@ -163,6 +170,15 @@ placed_new x (y ∷ ys) h m =
     (⊎_elim (λ (u : x < y). placed_less x y ys u ∙ sym (ap (λ n. insert (y ∷ ys) n x) (count_no x y ys u ∙ count_none x ys (All-weaker (λ z. y < z) (λ z. x < z) (λ z v. omega arith) ys h.0))))
     (λ (u : y < x). placed_more x y ys u ∙ ap (λ zs. y ∷ zs) (placed_new x ys h.1 (λ n. m (inr n))) ∙ sym (ap (λ n. insert (y ∷ ys) n x) (count_yes x y ys (omega arith) ∙ one-add (at_or_below x ys)))))
     (cases_order x y)
+
+-- where the last cut at or below x is not x, x is none of them
+pub among_last : (x : ℕ) (cs : List ℕ) → Ascending cs → Among x cs → (0 < at_or_below x cs) × (slice_index cs (at_or_below x cs - 1) ≡ x)
+among_last x cs h m =
+    let w = among_at x cs m in
+    let c : w.0 < at_or_below x cs = among_counted x x cs h (omega arith) w.0 w.1 w.2 in
+    let low = count_below x cs h (at_or_below x cs - 1) (omega arith) in
+    let most = at_most cs h w.0 (at_or_below x cs - 1) (omega arith) (omega (arith, count_le x cs)) in
+    (omega arith, omega (arith, low, most, w.2))
 
 pub at_among : (cs : List ℕ) (i x : ℕ) → i < length cs → slice_index cs i ≡ x → Among x cs
 at_among [] i x l e = absurd (omega arith)

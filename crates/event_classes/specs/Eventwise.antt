@@ -1,7 +1,8 @@
 -- The classes of events: no test tells codes of one class apart.
-use Rattle.std.specs.Prelude.{◌≡◌, ℕ, zero, suc, ◌+◌, ◌<◌, ◌≤◌, true, false, cond, not, ◌&&◌, ltb, leb, ◌⊎◌, List, [], ◌∷◌, length, ◌==◌, nat_le, nat_lt, refl}
+use Rattle.std.specs.Prelude.{◌≡◌, ℕ, zero, suc, ◌+◌, ◌<◌, ◌≤◌, true, false, cond, not, ◌&&◌, ltb, leb, ◌⊎◌, List, [], ◌∷◌, length, take, ◌==◌, nat_le, nat_lt, refl}
 use Rattle.std.proofs.Common.{sym, ap, ◌∙◌, inl, inr, ⊎_elim, arith}
 use Rattle.std.proofs.lemmas.Bool.{cases_lt, cases_eq, le-leb, lt-leb, lt-ltb, le-ltb, ltb-true, and_left, and_right, and_parts}
+use Rattle.std.proofs.lemmas.List.{length-take}
 use Rattle.symbols.specs.declared.Event.{Event}
 use Rattle.symbols.specs.declared.EventTest.{EventTest}
 use Rattle.symbols.specs.Tests.{passes_code, code_of}
@@ -44,6 +45,10 @@ events_within ts code = omega (arith, count_le code (cuts ts))
 pub events_few : (ts : List EventTest) → length ts ≤ 63 → (1 ≤ event_classes ts) × (event_classes ts ≤ 256)
 events_few ts l = (omega arith, omega (arith, by_length ts []))
 
+-- the first n of the tests are no more than n
+pub few_taken : (n : ℕ) (ts : List EventTest) → n ≤ 63 → length (take n ts) ≤ 63
+few_taken n ts few = omega (arith, length-take n ts)
+
 -- kinds of 8 bits and values of 16 bits have codes of 24
 pub code_fits : (e : Event) → nat_lt e.kind 256 && nat_lt e.value 65536 ≡ true → code_of e < 16777216
 code_fits e h =
@@ -63,3 +68,6 @@ events_untested ts c k h = and_right (nat_lt c (event_classes ts)) (event_passes
 
 pub events_unclassed : (ts : List EventTest) (c k : ℕ) → event_classes ts ≤ c → event_accepts ts c k ≡ false
 events_unclassed ts c k l = and_left (nat_lt c (event_classes ts)) (event_passes ts k (lowest_code (cuts ts) c)) (le-ltb c (event_classes ts) l)
+
+pub events_answer : (ts : List EventTest) (c k s : ℕ) → c < event_classes ts → s ≡ lowest_code (cuts ts) c → event_passes ts k s ≡ event_accepts ts c k
+events_answer ts c k s l e = ap (event_passes ts k) e ∙ sym (ap (λ x. x && event_passes ts k (lowest_code (cuts ts) c)) (lt-ltb c (event_classes ts) l))

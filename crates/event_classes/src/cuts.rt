@@ -69,7 +69,8 @@ impl Cuts {
         self.rank_between(code, 0, self.codes.len())
     }
 
-    // The same, where it is a number between `low` and `high`.
+    // The same, where it is a number between `low` and `high`. A search asks this of each event, and most kinds lie in one
+    // class or two; so it halves by a loop of its own, which is at its end at once where the two are the same.
     pub fn rank_between(&self, code: u32, low: usize, high: usize) -> usize
         requires above { low ≤ at_or_below code self.now }
         requires below { at_or_below code self.now ≤ high }
@@ -77,6 +78,17 @@ impl Cuts {
         ensures is { result ≡ at_or_below code self.now }
         ensures few { result ≤ 126 }
     {
-        low + self.codes[low..high].partition_point(|cut| *cut <= code)
+        let cuts = self.codes.as_slice();
+        let mut low = low;
+        let mut high = high;
+        while low < high {
+            let middle = low + (high - low) / 2;
+            if cuts[middle] <= code {
+                low = middle + 1;
+            } else {
+                high = middle;
+            }
+        }
+        low
     }
 }
