@@ -1,5 +1,6 @@
 -- What is sealed is the pattern of the draft.
-use Rattle.std.proofs.Common.{◌≡◌, ◌≤◌, leb, List, [], ◌∷◌, ◌++◌, length, Some, None, Option, sym, refl, ap, ◌∙◌, arith}
+use Rattle.std.proofs.Common.{◌≡◌, ℕ, ◌≤◌, leb, List, [], ◌∷◌, ◌++◌, length, take, Some, None, Option, sym, refl, ap, ◌∙◌, arith}
+use Rattle.std.proofs.lemmas.List.{take_all, length-take}
 use Rattle.std.proofs.lemmas.Bool.{and_from, le-leb, cond-true}
 use Rattle.pattern.specs.declared.Code.{Code}
 use Rattle.pattern.specs.declared.Code.TheVariants.{Join, Choice, Star, Plus, Maybe}
@@ -48,3 +49,7 @@ sealed_of cs ds l e =
       kept = λ t h few. ap tree (e ∙ fits_tree cs t l h few) ∙ (tree_is cs t).1 h;
       empty = λ z. ap tree (e ∙ ap sealable z);
     }
+
+-- a draft has no more tests than an alphabet keeps
+pub all_kept : {X : Type 0} (ts : List X) (n : ℕ) → n ≤ 63 → take 63 (take n ts) ≡ take n ts
+all_kept ts n l = take_all 63 (take n ts) (omega (arith, length-take n ts))

@@ -23,7 +23,7 @@ pub record Upto (last first : Members) (old new : List PositionSet) (p : ℕ) : 
 pub upto_none : (last first : Members) (old : List PositionSet) → length old ≡ 64 → Upto last first old old 0
 upto_none last first old e = record { long = e; done = λ k l. absurd (omega arith); left = λ k l. refl }
 
-upto_yes : (last first : Members) (old new : List PositionSet) (p : ℕ) (s : PositionSet) → p < 64 → last p ≡ true → holds s ≡ either (holds (get_or new p blank)) first → Upto last first old new p → Upto last first old (set new p s) (p + 1)
+pub upto_yes : (last first : Members) (old new : List PositionSet) (p : ℕ) (s : PositionSet) → p < 64 → last p ≡ true → holds s ≡ either (holds (get_or new p blank)) first → Upto last first old new p → Upto last first old (set new p s) (p + 1)
 upto_yes last first old new p s l h e u =
     let here : holds s ≡ (λ q. entry old p q || last p && first q) =
     e ∙ ap (λ r. either (holds r) first) (u.left p (omega arith)) ∙ fun_ext (λ q. ap (λ b. entry old p q || b && first q) (sym h)) in
@@ -47,6 +47,9 @@ upto_skip last first old new n p l h u =
           (cases_lt k n);
       left = λ k v. u.left k (omega arith);
     }
+
+pub upto_no : (last first : Members) (old new : List PositionSet) (p : ℕ) → last p ≡ false → Upto last first old new p → Upto last first old new (p + 1)
+upto_no last first old new p h u = upto_skip last first old new p (p + 1) (omega arith) (λ k a b. let e : k ≡ p = omega arith in ap last e ∙ h) u
 
 pub upto_more : (last first : Members) (old new : List PositionSet) (n p : ℕ) (s : PositionSet) → p < 64 → LowestFrom last n p → holds s ≡ either (holds (get_or new p blank)) first → Upto last first old new n → Upto last first old (set new p s) (p + 1)
 upto_more last first old new n p s l w e u = upto_yes last first old new p s l w.member e (upto_skip last first old new n p w.low w.lower u)

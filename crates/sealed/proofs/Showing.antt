@@ -1,8 +1,8 @@
 -- Tables that show the positions of a pattern.
-use Rattle.std.proofs.Common.{◌≡◌, ℕ, ◌+◌, ◌<◌, ◌≤◌, Bool, true, false, cond, eqb, List, [], ◌∷◌, ◌++◌, length, get_or, drop, set, replicate, reverse, Some, None, sym, refl, ap, ◌∙◌, ⊎_elim, arith, get_or-set_other, get_or-set_same}
-use Rattle.std.proofs.lemmas.List.{at_drop_more, at_drop_all, length-map, length-reverse}
-use Rattle.std.proofs.lemmas.List.Sums.{sum_by-append}
-use Rattle.std.proofs.lemmas.Bool.{cases_eq, eq-eqb, ne_eqb, cond-true, cond-false}
+use Rattle.std.proofs.Common.{◌≡◌, ℕ, ◌+◌, ◌<◌, ◌≤◌, Bool, true, false, cond, eqb, leb, List, [], ◌∷◌, ◌++◌, length, get_or, take, drop, set, replicate, reverse, Some, None, sym, refl, ap, ◌∙◌, ⊎_elim, arith, get_or-set_other, get_or-set_same}
+use Rattle.std.proofs.lemmas.List.{at_drop_more, at_drop_all, take_all, length-map, length-reverse}
+use Rattle.std.proofs.lemmas.List.Sums.{sum_by-append, count_by-le-length}
+use Rattle.std.proofs.lemmas.Bool.{and_parts, leb-true, cases_eq, eq-eqb, ne_eqb, cond-true, cond-false}
 use Rattle.sets.specs.Members.{none}
 use Rattle.sets.specs.Positions.{holds, PositionSet}
 use Rattle.theory.specs.Positions.{Positions, positions}
@@ -17,6 +17,7 @@ use Rattle.sealed.specs.declared.tables.Tables.{Tables}
 use Rattle.sealed.specs.Parts.{part_of}
 use Rattle.sealed.specs.Shown.{Shows, whole}
 use Rattle.sealed.specs.Assembling.{stack, rest, Taken, is_atom, atom_codes}
+use Rattle.sealed.specs.Plans.{fits}
 use Rattle.alphabet.specs.Sets.{blank}
 use Rattle.sealed.specs.Tables.{entry, following, preceding}
 use Rattle.sealed.proofs.Linking.{entry_none}
@@ -60,7 +61,7 @@ not_one [] n f d = refl
 not_one (x ∷ []) n f d = absurd (d refl)
 not_one (x ∷ y ∷ st) n f d = refl
 
-none_left : (xs : List Part) (n : ℕ) (f : ℕ → ℕ → Bool) → (length xs ≡ 1 → ⊥) → or_none (seal [] n (stack xs) f) ≡ positions None
+pub none_left : (xs : List Part) (n : ℕ) (f : ℕ → ℕ → Bool) → (length xs ≡ 1 → ⊥) → or_none (seal [] n (stack xs) f) ≡ positions None
 none_left xs n f d = not_one (stack xs) n f (λ e. d (sym (length-map (reverse xs) part_of ∙ length-reverse xs) ∙ e))
 
 -- tables that show what is left show the pattern of the codes
@@ -69,6 +70,12 @@ shows_codes codes P t e h = rw (e ∙ sealed_is codes) at h
 
 pub atoms_append : (cs ds : List Code) → atom_codes (cs ++ ds) ≡ atom_codes cs + atom_codes ds
 atoms_append cs ds = sum_by-append (λ c. cond (is_atom c) 1 0) cs ds
+
+pub atoms_cons : (code : Code) (cs : List Code) → atom_codes (code ∷ cs) ≡ atom_codes (code ∷ []) + atom_codes cs
+atoms_cons code cs = atoms_append (code ∷ []) cs
+
+pub weight_low : (code : Code) → atom_codes (code ∷ []) ≤ 1
+weight_low code = count_by-le-length is_atom (code ∷ [])
 
 -- one code more
 pub atoms_more : (codes : List Code) (i n : ℕ) (d : Code) → i < length codes → n + atom_codes (drop i codes) ≡ atom_codes codes → n + atom_codes (get_or codes i d ∷ []) + atom_codes (drop (i + 1) codes) ≡ atom_codes codes
@@ -85,3 +92,13 @@ rest_all codes i a l k = sym (at_drop_all (λ cs. or_none (rest a cs)) codes i l
 
 pub no_tables : (codes : List Code) (i : ℕ) (a : Assembly) → length codes ≤ i → or_none (rest a (drop i codes)) ≡ sealed codes → (length a.parts.items ≡ 1 → ⊥) → positions (tree codes) ≡ positions None
 no_tables codes i a l k d = sym (sealed_is codes) ∙ sym (rest_all codes i a l k) ∙ none_left a.parts.items (a.atoms + 1) (entry a.next) d
+
+-- the codes are kept whole
+pub copied_all : (own codes : List Code) (i : ℕ) → i ≡ length codes → take i own ≡ take i codes → take (length codes) own ≡ codes
+copied_all own codes i e h = ap (λ n. take n own) (sym e) ∙ h ∙ take_all i codes (omega arith)
+
+pub shows_at : (codes ds : List Code) (t : Tables) → ds ≡ codes → Shows (positions (tree codes)) t → Shows (positions (tree ds)) t
+shows_at codes ds t e h = rw e h
+
+pub short : (codes : List Code) → fits codes ≡ true → length codes ≤ 1023
+short codes e = leb-true (length codes) 1023 (and_parts (leb (length codes) 1023) (leb (atom_codes codes) 63) e).0

@@ -5,6 +5,7 @@ use Rattle.std.proofs.lemmas.Bool.{cases_eq}
 use Rattle.sets.specs.Members.{none, either}
 use Rattle.sets.specs.Lowest.{LowestFrom}
 use Rattle.sets.specs.Positions.{holds, width, PositionSet}
+use Rattle.sets.proofs.Known.{members_low}
 use Rattle.theory.specs.Masks.{some}
 use Rattle.sealed.specs.Tables.{entry}
 
@@ -47,3 +48,6 @@ united_more s rows n p all new r l w e h u =
 
 pub united_all : (s : PositionSet) (rows : List PositionSet) (n : ℕ) (all : PositionSet) → ((k : ℕ) → n ≤ k → holds s k ≡ false) → United s rows n all → (q : ℕ) → holds all q ≡ some width (meet s rows q)
 united_all s rows n all h u q = u.is q ∙ sym (some_none (meet s rows q) n 64 u.low (λ k a b. skipped s rows q k (h k a)))
+
+pub member_low : (s : PositionSet) (n p : ℕ) → LowestFrom (holds s) n p → p < 64
+member_low s n p w = members_low s p w.member

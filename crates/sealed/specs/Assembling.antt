@@ -7,7 +7,12 @@ use Rattle.theory.specs.Seal as seal
 use Rattle.sealed.specs.declared.part.Part.{Part}
 use Rattle.sealed.specs.declared.assembly.Assembly.{Assembly}
 use Rattle.sealed.specs.Parts.{part_of}
+use Rattle.alphabet.specs.Sets.{blank}
 use Rattle.sealed.specs.Tables.{entry}
+
+-- the part without words
+abbrev pub no_part : Part
+no_part = record { nullable = false; first = blank; last = blank }
 
 -- the parts, the latest first
 abbrev pub stack : List Part → List seal.Part

@@ -1,5 +1,5 @@
 -- What a plan means: the codes that it keeps, and the positions of their pattern.
-use Rattle.std.specs.Prelude.{◌≡◌, ℕ, ◌≤◌, Bool, cond, ◌&&◌, List, [], length, Some, None, Option, nat_le}
+use Rattle.std.specs.Prelude.{◌≡◌, ℕ, ◌≤◌, Bool, cond, ◌&&◌, List, [], length, take, Some, None, Option, nat_le}
 use Rattle.pattern.specs.declared.Code.{Code}
 use Rattle.pattern.specs.Tree.{Tree}
 use Rattle.pattern.specs.Codes.{tree, TreeOf, count}
@@ -9,7 +9,7 @@ use Rattle.sealed.specs.declared.plan.Plan.{Plan}
 use Rattle.sealed.specs.Assembling.{atom_codes}
 
 abbrev pub codes_of : Plan → List Code
-codes_of p = p.codes.items
+codes_of p = take p.used p.codes
 
 -- the pattern's tree; codes that are of no tree, as those of an empty draft, have none
 abbrev pub tree_of : Plan → Option Tree

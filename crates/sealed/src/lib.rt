@@ -8,4 +8,5 @@ mod rows;
 mod sealing;
 mod tables;
 
+pub use plan::Plan;
 pub use sealing::{Sealed, seal};

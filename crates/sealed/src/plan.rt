@@ -1,5 +1,5 @@
 // The positions of a pattern, and its codes, which say what pattern it is.
-ghost use Rattle.std.specs.Prelude.{◌≤◌};
+ghost use Rattle.std.specs.Prelude.{◌≤◌, take};
 ghost use Rattle.pattern.specs.Codes.{tree};
 ghost use Rattle.theory.specs.Positions.{positions, atoms};
 ghost use Rattle.sealed.specs.Shown.{Shows};
@@ -8,13 +8,13 @@ mod answers;
 mod making;
 
 use crate::tables::Tables;
-use arrayvec::ArrayVec;
 use pattern::Code;
 
-#[derive(Drop)]
+#[derive(Clone, Copy)]
 pub struct Plan {
-    codes: ArrayVec<Code, 1023>,
+    codes: [Code; 1023],
+    used: usize,
     tables: Tables,
-    ghost few: { atoms (tree codes.items) ≤ 63 },
-    ghost right: { Shows (positions (tree codes.items)) tables },
+    ghost few: { atoms (tree (take used codes)) ≤ 63 },
+    ghost right: { Shows (positions (tree (take used codes))) tables },
 }

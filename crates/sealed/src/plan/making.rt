@@ -5,7 +5,7 @@ ghost use Rattle.sealed.specs.Plans.{codes_of, sealable};
 
 use crate::plan::Plan;
 use crate::tables::Tables;
-use arrayvec::ArrayVec;
+use alphabet::keep;
 use pattern::Code;
 
 fn atoms(codes: &[Code]) -> usize
@@ -23,7 +23,8 @@ impl Plan {
         ensures { codes_of result ≡ [] }
     {
         Plan {
-            codes: ArrayVec::new(),
+            codes: [Code::Atom; 1023],
+            used: 0,
             tables: Tables::none(),
         }
     }
@@ -32,14 +33,15 @@ impl Plan {
     pub fn of(codes: &[Code]) -> Plan
         ensures { codes_of result ≡ sealable codes.now }
     {
-        if atoms(codes) > 63 {
+        // The length is asked first: of too many codes none is counted.
+        if codes.len() > 1023 || atoms(codes) > 63 {
             return Plan::none();
         }
-        let Ok(kept) = ArrayVec::try_from(codes) else {
-            return Plan::none();
-        };
+        let mut own = [Code::Atom; 1023];
+        let used = keep(&mut own, codes);
         Plan {
-            codes: kept,
+            codes: own,
+            used,
             tables: Tables::of(codes),
         }
     }

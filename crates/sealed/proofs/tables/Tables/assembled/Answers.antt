@@ -1,8 +1,7 @@
 use Rattle.std.proofs.Common.{◌≡◌, ◌+◌, false, length, sym, ap, ◌∙◌, arith}
 use Rattle.pattern.specs.declared.Code.TheVariants.{Atom}
 use Rattle.theory.proofs.Seal.{sealed_is}
-use Rattle.sealed.specs.declared.part.Part.{Part}
-use Rattle.alphabet.specs.Sets.{blank}
+use Rattle.sealed.specs.Assembling.{no_part}
 use Rattle.sealed.specs.Tables.{entry}
 use Rattle.sealed.proofs.Showing.{shows_codes, one_left, no_tables, atoms_more, rest_more, rest_none, rest_all}
 use Rattle.sealed.proofs.tables.Tables.assembled.Goals as goal
@@ -28,8 +27,7 @@ pub returns-in-len1 : goal.returns-in-len1
 returns-in-len1 c =
     let l = c.loop-code in
     let one : length l.assembly.parts.items ≡ 1 = omega (arith, ap length c.as_slice.ensures.value, c.in-len1.len_at_least, c.in-len1.len_below) in
-    let none : Part = record { nullable = false; first = blank; last = blank } in
-    let left = sym (one_left l.assembly.parts.items c.as_slice.result.now none (l.assembly.atoms + 1) (entry l.assembly.next) one c.as_slice.ensures.value) in
+    let left = sym (one_left l.assembly.parts.items c.as_slice.result.now no_part (l.assembly.atoms + 1) (entry l.assembly.next) one c.as_slice.ensures.value) in
     shows_codes c.args.codes.now _ c.finished.result (left ∙ rest_all c.args.codes.now l.code-index l.assembly c.loop-code-test.false l.invariant.1) c.finished.ensures
 
 pub returns-in_default : goal.returns-in_default
