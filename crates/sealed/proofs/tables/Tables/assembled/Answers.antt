@@ -1,4 +1,4 @@
-use Rattle.std.proofs.Common.{◌≡◌, ◌+◌, false, length, sym, ap, ◌∙◌, arith}
+use Rattle.std.proofs.Common.{◌≡◌, ◌+◌, length, sym, ap, ◌∙◌, arith}
 use Rattle.pattern.specs.declared.Code.TheVariants.{Atom}
 use Rattle.theory.proofs.Seal.{sealed_is}
 use Rattle.sealed.specs.Assembling.{no_part}
