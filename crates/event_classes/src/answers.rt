@@ -43,7 +43,7 @@ impl Alphabet for EventCuts {
     }
 
     fn class_of(&self, symbol: Event) -> u16 {
-        let kind = self.table.kinds[symbol.kind as usize];
+        let kind = &self.table.kinds[symbol.kind as usize];
         let rank = self
             .table
             .cuts

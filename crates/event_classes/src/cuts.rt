@@ -82,7 +82,7 @@ impl Cuts {
         let mut low = low;
         let mut high = high;
         while low < high {
-            let middle = low + (high - low) / 2;
+            let middle = (low + high) / 2;
             if cuts[middle] <= code {
                 low = middle + 1;
             } else {
