@@ -1,9 +1,9 @@
 -- The size of a map: what one step more or less does to it.
-use Rattle.std.proofs.Common.{◌≡◌, ℕ, zero, suc, ◌+◌, ◌*◌, ◌/◌, ◌%◌, ◌<◌, ◌≤◌, true, false, eqb, ltb, Some, None, Option, is_none, sym, refl, ap, ◌∙◌, ⊎_elim, arith}
+use Rattle.std.proofs.Common.{◌≡◌, ℕ, zero, suc, ◌+◌, ◌*◌, ◌/◌, ◌%◌, ◌<◌, ◌≤◌, Bool, true, false, cond, eqb, ltb, Some, None, Option, is_none, sym, refl, ap, ◌∙◌, ⊎_elim, add-zero, arith}
 use Rattle.std.proofs.lemmas.Bool.{cases_eq, cases_Bool, eq-eqb, ne_eqb, both_ways, and_parts, ltb-true, lt-ltb}
 use Rattle.std.proofs.Math.Bool.{and-false}
 use Rattle.std.proofs.lemmas.Nat.{div-mul-add, mod-mul-add, mul-add-lt, div-add-mod'}
-use Rattle.memory.specs.Steps.{Map, noted, size, tally, one, nothing, notable}
+use Rattle.memory.specs.Steps.{Map, noted, size, tally, one, nothing, notable, after}
 
 one_le : (o : Option ℕ) → one o ≤ 1
 one_le None = omega arith
@@ -124,3 +124,8 @@ not_notable n m f p c t not =
     (λ (e : notable n m f p c t ≡ true). absurd (not (notable_parts n m f p c t e)))
     (λ (e : notable n m f p c t ≡ false). e)
     (cases_Bool (notable n m f p c t))
+
+-- a note that adds its step adds one to the size, and another leaves it
+pub size_after : (n m : ℕ) (f : Map) (p c t : ℕ) (r : Bool) → r ≡ notable n m f p c t → size n (after r f p c t) ≡ size n f + cond r 1 0
+size_after n m f p c t true e = let q = notable_parts n m f p c t (sym e) in size_noted n f p c t q.place q.class q.lacks
+size_after n m f p c t false e = sym (add-zero (size n f))

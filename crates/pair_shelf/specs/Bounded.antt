@@ -54,10 +54,14 @@ fold_within f (s ∷ xs) e w = let a = first_new f s xs e in fold_within (with_s
 nothing_within : Within 64 nothing
 nothing_within p c t h = cc
 
+-- whatever the length of the table
+pub pairs_within : (xs : List Step) → distinct xs ≡ true → Within 64 (pairs xs)
+pairs_within xs e = fold_within nothing xs e nothing_within
+
 pub pair_bounds : (xs : List Step) → length xs ≤ 512 → distinct xs ≡ true → Bounds 64 512 (pairs xs)
 pair_bounds xs h e = record {
   few = omega arith;
   some = λ _. omega arith;
-  within = fold_within nothing xs e nothing_within;
+  within = pairs_within xs e;
   fits = omega (arith, pairs_size xs e);
 }

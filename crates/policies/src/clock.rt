@@ -1,8 +1,8 @@
 ghost use Rattle.std.specs.Prelude.{◌≡◌, ℕ, ◌<◌, true};
-ghost use Rattle.sets.specs.Members.{none};
+ghost use Rattle.sets.specs.Members.{none, less};
 ghost use Rattle.sets.specs.Places.{member};
 ghost use Rattle.memory.specs.Live.{May};
-ghost use Rattle.memory.specs.Live.News.{chose};
+ghost use Rattle.memory.specs.Live.News.{dropped, met, chose};
 ghost use Rattle.policies.specs.Heard.{clock_hears, way_from};
 ghost use Rattle.policies.specs.Round.{next, way, round, only, hand_after};
 ghost use Rattle.sets.proofs.Known.{members_low};
@@ -57,11 +57,18 @@ impl Policy for Clock {
     }
 
     // The marks and the hand stay: only a choice moves the hand.
-    fn drop_places(&mut self, places: PlaceSet) {
+    fn drop_places(&mut self, places: PlaceSet)
+        ensures live { member self.new.live ≡ less (member self.old.live) (member places) }
+        ensures marks { self.new.marks ≡ self.old.marks }
+        ensures hears { clock_hears (face_of self.old) (dropped (member places)) (face_of self.new) }
+    {
         self.live = self.live.minus(places);
     }
 
-    fn touch(&mut self, places: PlaceSet) {
+    fn touch(&mut self, places: PlaceSet)
+        ensures live { self.new.live ≡ self.old.live }
+        ensures hears { clock_hears (face_of self.old) (met (member places)) (face_of self.new) }
+    {
         self.marks = self.marks.union(places);
     }
 
