@@ -134,15 +134,15 @@ rows_more n m f g h c gone a inv s row = record {
   clean = at_more (λ d. (q : ℕ) → Clean m h q d) c (λ d l q. clean_fewer n m g h a q d s (inv.clean d l q)) row;
 }
 
-pub all_clean : (r : Rows) (n : ℕ) (m : ℕ → Bool) (f : Map) (c gone : ℕ) → RowsSwept n m f (map_in r) c gone → r.used ≤ c → map_in r ≡ without f m
+pub all_clean : (r : Rows) (n : ℕ) (m : ℕ → Bool) (f : Map) (c gone : ℕ) → RowsSwept n m f (map_in r) c gone → r.used.classes ≤ c → map_in r ≡ without f m
 all_clean r n m f c gone inv h =
     fun_ext
     (λ q. fun_ext
     (λ d.
     ⊎_elim
-    (λ (l : d < r.used). inv.clean d (omega arith) q)
-    (λ (l : r.used ≤ d). clean_none m (map_in r) q d (none_above r.bytes.now r.places r.used q d l))
-    (cases_lt d r.used)))
+    (λ (l : d < r.used.classes). inv.clean d (omega arith) q)
+    (λ (l : r.used.classes ≤ d). clean_none m (map_in r) q d (none_above r.bytes.now r.places r.used.classes q d l))
+    (cases_lt d r.used.classes)))
     ∙ inv.swept.same
 
 -- what two calls leave of the bytes, one after the other

@@ -1,11 +1,15 @@
 -- The dense rows keep a shelf's bounds. The proof stands here and not among the proofs, because the ghost member `bounds` cites it.
-use Rattle.std.specs.Prelude.{◌≡◌, ℕ, ◌+◌, ◌*◌, ◌<◌, ◌≤◌, cond, List, Some, None, slice_index}
+use Rattle.std.specs.Prelude.{◌≡◌, ℕ, ◌+◌, ◌*◌, ◌/◌, ◌<◌, ◌≤◌, cond, List, length, Some, None, slice_index}
 use Rattle.std.proofs.Common.{sym, ap, ◌∙◌, ⊎_elim, arith}
 use Rattle.std.proofs.lemmas.Bool.{cases_lt, lt-ltb, le-ltb}
 use Rattle.std.proofs.lemmas.Option.{none-some}
+use Rattle.std.proofs.Math.Nat.{min-le_right}
 use Rattle.memory.specs.Steps.{Bounds, Within}
 use Rattle.memory.proofs.Sizes.{size_le}
-use Rattle.dense_shelf.specs.Rows.{dense, target}
+use Rattle.dense_shelf.specs.Rows.{dense, rows, target}
+
+pub rows_few : (n : ℕ) → rows n ≤ 64
+rows_few n = min-le_right (n / 256) 64
 
 pub target_low : (n b t : ℕ) → target n b ≡ Some t → (t < n) × (b ≡ t)
 target_low n b t e =
@@ -26,10 +30,15 @@ dense_within bs n w hw p c t e =
     (λ (a : n ≤ p). absurd (none-some t (rw (le-ltb p n a) at e)))
     (cases_lt p n)
 
-pub dense_bounds : (bs : List ℕ) (n w : ℕ) → n ≤ 64 → w ≤ 256 → Bounds n (256 * n) (dense bs n w)
-dense_bounds bs n w few low = record {
+-- of as many places as the rows are said to serve
+pub bounds_of_rows : (bs : List ℕ) (n w : ℕ) → n ≤ 64 → w ≤ 256 → Bounds n (256 * n) (dense bs n w)
+bounds_of_rows bs n w few low = record {
   few = few;
   some = λ h. omega arith;
   within = dense_within bs n w low;
   fits = size_le n (dense bs n w);
 }
+
+-- of as many places as the bytes serve
+pub dense_bounds : (bs : List ℕ) (w : ℕ) → w ≤ 256 → Bounds (rows (length bs)) (256 * rows (length bs)) (dense bs (rows (length bs)) w)
+dense_bounds bs w h = bounds_of_rows bs (rows (length bs)) w (rows_few (length bs)) h

@@ -5,7 +5,7 @@ use Rattle.dense_shelf.specs.Rows.{dense, behind}
 use Rattle.dense_shelf.specs.declared.rows.Rows.{Rows}
 
 abbrev pub map_in : Rows → Map
-map_in r = dense r.bytes.now r.places r.used
+map_in r = dense r.bytes.now r.places r.used.classes
 
 -- the count is the size of their map
 abbrev pub counted : Rows → ℕ → Type 0

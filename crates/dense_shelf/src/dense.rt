@@ -1,11 +1,12 @@
 ghost use Rattle.std.specs.Prelude.{◌≡◌, ◌+◌, ◌*◌, length};
 ghost use Rattle.sets.specs.Places.{member};
 ghost use Rattle.memory.specs.Steps.{size, nothing, notable, after, without};
-ghost use Rattle.dense_shelf.specs.Bounded.{dense_bounds};
+ghost use Rattle.dense_shelf.specs.Bounded.{bounds_of_rows};
 ghost use Rattle.dense_shelf.specs.Kept.{map_in, Untouched};
 ghost use Rattle.dense_shelf.specs.Rows.{rows as served};
 
 use crate::rows::Rows;
+use crate::watermark::Watermark;
 use memory::shelf::Shelf;
 use sets::PlaceSet;
 use std::marker::Model;
@@ -53,7 +54,7 @@ impl<'a> Shelf for DenseShelf<'a> {
 
     ghost steps = { λ r. map_in r };
 
-    ghost bounds = { λ r. dense_bounds r.bytes.now r.places r.used r.few r.low };
+    ghost bounds = { λ r. bounds_of_rows r.bytes.now r.places r.used.classes r.few r.used.low };
 
     fn places(&self) -> u8 {
         self.rows.places
@@ -77,7 +78,7 @@ impl<'a> Shelf for DenseShelf<'a> {
         ensures map { map_in self.new ≡ nothing }
         ensures untouched { Untouched self.old self.new }
     {
-        self.rows.used = 0;
+        self.rows.used = Watermark { classes: 0 };
         self.count = 0;
     }
 

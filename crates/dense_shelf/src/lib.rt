@@ -3,5 +3,7 @@
 
 mod dense;
 mod rows;
+mod watermark;
 
 pub use dense::DenseShelf;
+pub use watermark::Watermark;

@@ -8,6 +8,7 @@ ghost use Rattle.memory.specs.Steps.{size, notable, after, without};
 ghost use Rattle.dense_shelf.specs.Rows.{rows, target, wider};
 ghost use Rattle.dense_shelf.specs.Sweep.{Swept, Clean};
 
+use crate::watermark::Watermark;
 use sets::PlaceSet;
 
 // Rows of so many places over the bytes, of which those of the first classes are in use.
@@ -15,11 +16,10 @@ use sets::PlaceSet;
 pub(crate) struct Rows<'a> {
     pub(crate) bytes: &'a mut [u8],
     pub(crate) places: u8,
-    pub(crate) used: u16,
+    pub(crate) used: Watermark,
     ghost serves: { places ≡ rows (length bytes.now) },
     ghost few: { places ≤ 64 },
     ghost fit: { places * 256 ≤ length bytes.now },
-    ghost low: { used ≤ 256 },
 }
 
 // The step that a byte says, of n places.
@@ -44,13 +44,13 @@ impl<'a> Rows<'a> {
         ensures bytes { result.bytes.now ≡ bytes.old }
         ensures lender { result.bytes.ghost_name ≡ bytes.entry.ghost_name }
         ensures places { result.places ≡ rows (length bytes.old) }
-        ensures used { result.used ≡ 0 }
+        ensures used { result.used.classes ≡ 0 }
     {
         let places = (bytes.len() / 256).min(64) as u8;
         Rows {
             bytes,
             places,
-            used: 0,
+            used: Watermark { classes: 0 },
         }
     }
 
@@ -66,7 +66,7 @@ impl<'a> Rows<'a> {
     pub(crate) fn know(&self, place: u8, class: u16) -> Option<u8>
         ensures { result ≡ map_in self.now place class }
     {
-        if place < self.places && class < self.used {
+        if place < self.places && class < self.used.classes {
             step_of(self.bytes[self.cell(place, class)], self.places)
         } else {
             None
@@ -77,15 +77,15 @@ impl<'a> Rows<'a> {
     fn widen(&mut self, class: u16)
         requires { class < 256 }
         ensures untouched { Untouched self.old self.new }
-        ensures used { self.new.used ≡ wider self.old.used class }
+        ensures used { self.new.used.classes ≡ wider self.old.used.classes class }
         ensures map { map_in self.new ≡ map_in self.old }
     {
-        if class >= self.used {
+        if class >= self.used.classes {
             let n = self.places as usize;
-            let start = self.used as usize * n;
+            let start = self.used.classes as usize * n;
             let end = (class as usize + 1) * n;
             self.bytes[start..end].fill(255);
-            self.used = class + 1;
+            self.used = Watermark { classes: class + 1 };
         }
     }
 
@@ -108,9 +108,9 @@ impl<'a> Rows<'a> {
 
     // Forgets the step from the place at the class, and answers whether there was one.
     fn forget_from(&mut self, class: u16, place: u8) -> bool
-        requires { (class < self.old.used) × (place < self.old.places) }
+        requires { (class < self.old.used.classes) × (place < self.old.places) }
         ensures untouched { Untouched self.old self.new }
-        ensures used { self.new.used ≡ self.old.used }
+        ensures used { self.new.used.classes ≡ self.old.used.classes }
         ensures swept { Swept self.old.places (plus 64 none place) (map_in self.old) (map_in self.new) (if result then 1 else 0) }
         ensures gone { self.old.places ≤ slice_index self.new.bytes.now (class * self.old.places + place) }
     {
@@ -126,10 +126,10 @@ impl<'a> Rows<'a> {
     // Forgets the steps to the place at the class. Every byte of the row is written and a byte counts, so that
     // the loop is one over vectors.
     fn forget_to(&mut self, class: u16, place: u8) -> usize
-        requires in_use { (class < self.old.used) × (place < self.old.places) }
+        requires in_use { (class < self.old.used.classes) × (place < self.old.places) }
         requires gone { self.old.places ≤ slice_index self.old.bytes.now (class * self.old.places + place) }
         ensures untouched { Untouched self.old self.new }
-        ensures used { self.new.used ≡ self.old.used }
+        ensures used { self.new.used.classes ≡ self.old.used.classes }
         ensures swept { Swept self.old.places (plus 64 none place) (map_in self.old) (map_in self.new) result }
         ensures row { (q : ℕ) → Clean (plus 64 none place) (map_in self.new) q class }
     {
@@ -158,7 +158,7 @@ impl<'a> Rows<'a> {
         ensures answer { result + size self.old.places (map_in self.new) ≡ size self.old.places (map_in self.old) }
     {
         let mut gone = 0;
-        for class in 0..self.used {
+        for class in 0..self.used.classes {
             gone += usize::from(self.forget_from(class, place)) + self.forget_to(class, place);
         }
         gone
@@ -166,9 +166,9 @@ impl<'a> Rows<'a> {
 
     // Forgets in the row of the class the steps from or to the places.
     fn forget_row(&mut self, class: u16, places: PlaceSet) -> usize
-        requires { class < self.old.used }
+        requires { class < self.old.used.classes }
         ensures untouched { Untouched self.old self.new }
-        ensures used { self.new.used ≡ self.old.used }
+        ensures used { self.new.used.classes ≡ self.old.used.classes }
         ensures swept { Swept self.old.places (member places) (map_in self.old) (map_in self.new) result }
         ensures row { (p : ℕ) → Clean (member places) (map_in self.new) p class }
     {
@@ -192,7 +192,7 @@ impl<'a> Rows<'a> {
         ensures answer { result + size self.old.places (map_in self.new) ≡ size self.old.places (map_in self.old) }
     {
         let mut gone = 0;
-        for class in 0..self.used {
+        for class in 0..self.used.classes {
             gone += self.forget_row(class, places);
         }
         gone

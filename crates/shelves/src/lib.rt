@@ -1,5 +1,5 @@
 // Both shelves under one name, for a program that takes either.
 #![tactic(auto)]
 
-pub use dense_shelf::DenseShelf;
+pub use dense_shelf::{DenseShelf, Watermark};
 pub use pair_shelf::{PairShelf, Step};

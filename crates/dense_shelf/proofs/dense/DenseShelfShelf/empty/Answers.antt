@@ -4,5 +4,5 @@ use Rattle.memory.proofs.Sizes.{size_nothing}
 use Rattle.dense_shelf.proofs.Cells.{dense_empty}
 use Rattle.dense_shelf.proofs.dense.DenseShelfShelf.empty.Goals as goal
 
-pub invariant_of-self : goal.invariant_of-self
-invariant_of-self c = let r = c.self.inside.rows in sym (ap (size r.places) (dense_empty r.bytes.now r.places) ∙ size_nothing r.places)
+pub invariant_of-self-2 : goal.invariant_of-self-2
+invariant_of-self-2 c = let r = c.self.inside.rows in sym (ap (size r.places) (dense_empty r.bytes.now r.places) ∙ size_nothing r.places)

@@ -8,4 +8,4 @@ abbrev pub invariant-loop-p : goal.invariant-loop-p
 invariant-loop-p l =
     let r = l.fn.self in
     let a = l.class * r.places in
-    RowInv r.bytes.now r.places r.used (member l.places) l.class l.p (with_row r.bytes.now a (a + r.places) l.row) l.gone
+    RowInv r.bytes.now r.places r.used.classes (member l.places) l.class l.p (with_row r.bytes.now a (a + r.places) l.row) l.gone

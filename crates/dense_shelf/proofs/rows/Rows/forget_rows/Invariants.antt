@@ -7,6 +7,6 @@ use Rattle.dense_shelf.proofs.rows.Rows.forget_rows.Given as goal
 abbrev pub invariant-loop-class : goal.invariant-loop-class
 invariant-loop-class l = record {
   same : Untouched l.initial.self l.self;
-  used : l.self.used ≡ l.initial.self.used;
+  used : l.self.used.classes ≡ l.initial.self.used.classes;
   rows : RowsSwept l.initial.self.places (member l.places) (map_in l.initial.self) (map_in l.self) l.class l.gone;
 }

@@ -7,4 +7,4 @@ abbrev pub invariant-loop-byte : goal.invariant-loop-byte
 invariant-loop-byte l =
     let r = l.fn.self in
     let a = l.class * r.places in
-    OneInv r.bytes.now r.places r.used l.place l.class l.byte-index (with_row r.bytes.now a (a + r.places) l.row) l.gone
+    OneInv r.bytes.now r.places r.used.classes l.place l.class l.byte-index (with_row r.bytes.now a (a + r.places) l.row) l.gone

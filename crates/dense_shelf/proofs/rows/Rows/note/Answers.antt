@@ -41,7 +41,7 @@ returns-clause-map c =
     let s = c.widen.new.self in
     let hp : c.args.place < s.places = omega (arith, c.widen.ensures.untouched.places) in
     let ht : c.args.target < s.places = omega (arith, c.widen.ensures.untouched.places) in
-    let hc : c.args.class < s.used = omega (arith, c.widen.ensures.used, wider_low c.args.self.now.used c.args.class) in
-    ap (λ i. dense (set s.bytes.now i c.args.target) s.places s.used) c.cell-at.ensures.is
-    ∙ dense_set s.bytes.now s.places s.used c.args.place c.args.class c.args.target hp hc ht (omega (arith, c.cell-at.ensures.is, c.cell-at.ensures.within))
+    let hc : c.args.class < s.used.classes = omega (arith, c.widen.ensures.used, wider_low c.args.self.now.used.classes c.args.class) in
+    ap (λ i. dense (set s.bytes.now i c.args.target) s.places s.used.classes) c.cell-at.ensures.is
+    ∙ dense_set s.bytes.now s.places s.used.classes c.args.place c.args.class c.args.target hp hc ht (omega (arith, c.cell-at.ensures.is, c.cell-at.ensures.within))
     ∙ ap (λ f. noted f c.args.place c.args.class c.args.target) c.widen.ensures.map
