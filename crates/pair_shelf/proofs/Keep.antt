@@ -1,16 +1,18 @@
 -- What noting one step more, looking one up and dropping some do to the map and to the distinctness of a table.
-use Rattle.std.proofs.Common.{◌≡◌, ℕ, Bool, true, false, cond, not, ◌&&◌, ◌||◌, eqb, List, [], ◌∷◌, ◌++◌, reverse, filter, Some, None, Option, sym, refl, ap, ◌∙◌, ⊎_elim}
+use Rattle.std.proofs.Common.{◌≡◌, ℕ, zero, suc, ◌+◌, ◌<◌, ◌≤◌, Bool, true, false, cond, not, ◌&&◌, ◌||◌, eqb, List, [], ◌∷◌, ◌++◌, length, take, set, reverse, filter, Some, None, Option, sym, refl, ap, ◌∙◌, ⊎_elim, subst, arith, get_or-set_other}
 use mathlib.Core.Path.{fun_ext}
 use Rattle.std.specs.List.{fold, find}
 use Rattle.std.specs.Option.{option_map, option_or}
 use Rattle.std.proofs.lemmas.Bool.{and_from, cases_Bool, and_parts, eqb-true, lt-ltb}
 use Rattle.std.proofs.lemmas.List.Folds.{find-append}
-use Rattle.std.proofs.lemmas.List.{reverse-append}
+use Rattle.std.proofs.lemmas.List.{append-nil, reverse-append, take_more, take_more_set}
+use Rattle.std.proofs.lemmas.List.Elements.{filter-append}
+use Rattle.std.proofs.lemmas.List.Sums.{fold-append}
 use Rattle.sets.specs.Members.{Members}
 use Rattle.memory.specs.Steps.{Map, without, nothing}
 use Rattle.memory.proofs.Drops.{without_lacks, without_gone, without_stays}
 use Rattle.pair_shelf.specs.declared.step.Step.{Step}
-use Rattle.pair_shelf.specs.Pairs.{pairs, distinct, new, new_in_turn, with_step}
+use Rattle.pair_shelf.specs.Pairs.{pairs, distinct, kept, no_step, at, new, new_in_turn, with_step}
 use Rattle.pair_shelf.specs.Bounded.{New, first_new}
 
 -- one step more
@@ -25,6 +27,22 @@ turn_push f (x ∷ xs) s e k =
 
 pub distinct_push : (xs : List Step) (s : Step) → distinct xs ≡ true → New (pairs xs) s → distinct (xs ++ s ∷ []) ≡ true
 distinct_push xs s e k = turn_push nothing xs s e k
+
+-- the same of a table of which the first n steps are in use
+pub pairs_push : (xs : List Step) (n : ℕ) (s : Step) → n < length xs → pairs (take (n + 1) (set xs n s)) ≡ with_step (pairs (take n xs)) s
+pairs_push xs n s h = ap pairs (take_more_set xs n s h) ∙ fold-append with_step nothing (take n xs) (s ∷ [])
+
+pub fine_push : (xs : List Step) (n : ℕ) (s : Step) → n < length xs → distinct (take n xs) ≡ true → New (pairs (take n xs)) s → distinct (take (n + 1) (set xs n s)) ≡ true
+fine_push xs n s h e k = ap distinct (take_more_set xs n s h) ∙ distinct_push (take n xs) s e k
+
+-- the step at i, which no earlier one has the key of
+turn_at : (f : Map) (xs : List Step) (i : ℕ) → new_in_turn f xs ≡ true → i < length xs → New (fold with_step f (take i xs)) (at xs i)
+turn_at f [] i e h = absurd (omega arith)
+turn_at f (x ∷ xs) zero e h = (first_new f x xs e).0
+turn_at f (x ∷ xs) (suc i) e h = turn_at (with_step f x) xs i (first_new f x xs e).1 (omega arith)
+
+pub fine_at : (xs : List Step) (i : ℕ) → distinct xs ≡ true → i < length xs → New (pairs (take i xs)) (at xs i)
+fine_at xs i e h = turn_at nothing xs i e h
 
 -- a look-up from behind
 abbrev found : Option Step → Option ℕ → Option ℕ
@@ -83,10 +101,6 @@ gone_step f m s a lacks =
     (λ (h : (eqb q s.place && eqb d s.class) ≡ false). rw h)
     (cases_Bool (eqb q s.place && eqb d s.class))))
 
--- the steps that are neither from nor to the places
-abbrev pub kept : Members → List Step → List Step
-kept m xs = filter (λ s. not (m s.place || m s.target)) xs
-
 new_without : (f : Map) (m : Members) (s : Step) → New f s → New (without f m) s
 new_without f m s k = record {
   from = k.from;
@@ -124,3 +138,52 @@ pairs_kept m xs e = ap (λ f. fold with_step f (kept m xs)) (sym (nothing_withou
 
 pub distinct_kept : (m : Members) (xs : List Step) → distinct xs ≡ true → distinct (kept m xs) ≡ true
 distinct_kept m xs e = ap (λ f. new_in_turn f (kept m xs)) (sym (nothing_without m)) ∙ (keeps nothing m xs e).fine
+
+-- the sweep over a table: the first n are those kept of the first i, and from i on all stand as they did
+pub record Sweep (old : List Step) (m : Members) (i : ℕ) (xs : List Step) (n : ℕ) : Type 0 where
+  pub low : n ≤ i
+  pub front : take n xs ≡ kept m (take i old)
+  pub rest : (j : ℕ) → i ≤ j → at xs j ≡ at old j
+
+pub sweep_none : (old : List Step) (m : Members) → Sweep old m 0 old 0
+sweep_none old m = record { low = omega arith; front = refl; rest = λ j _. refl }
+
+-- what is kept of one step more
+one_more : (old : List Step) (m : Members) (i : ℕ) → i < length old → kept m (take (i + 1) old) ≡ kept m (take i old) ++ kept m (at old i ∷ [])
+one_more old m i h = ap (kept m) (take_more old i no_step h) ∙ filter-append (λ s. not (m s.place || m s.target)) (take i old) (at old i ∷ [])
+
+one_kept : (m : Members) (s : Step) → (m s.place || m s.target) ≡ false → kept m (s ∷ []) ≡ s ∷ []
+one_kept m s e = rw e
+
+one_gone : (m : Members) (s : Step) → (m s.place || m s.target) ≡ true → kept m (s ∷ []) ≡ []
+one_gone m s e = rw e
+
+pub sweep_kept : (old xs : List Step) (m : Members) (i n : ℕ) → Sweep old m i xs n → i < length old → i < length xs → (m (at xs i).place || m (at xs i).target) ≡ false → Sweep old m (i + 1) (set xs n (at xs i)) (n + 1)
+sweep_kept old xs m i n t ho hx a =
+    let s : at xs i ≡ at old i = t.rest i (omega arith) in
+    let b : (m (at old i).place || m (at old i).target) ≡ false = ap (λ y. m y.place || m y.target) (sym s) ∙ a in
+    record {
+      low = omega (arith, t.low);
+      front = take_more_set xs n (at xs i) (omega (arith, t.low))
+          ∙ ap (λ y. take n xs ++ y ∷ []) s
+          ∙ ap (λ ys. ys ++ at old i ∷ []) t.front
+          ∙ ap (λ ys. kept m (take i old) ++ ys) (sym (one_kept m (at old i) b))
+          ∙ sym (one_more old m i ho);
+      rest = λ j (q : i + 1 ≤ j). get_or-set_other xs n j (at xs i) no_step (λ (e : j ≡ n). omega (arith, t.low)) ∙ t.rest j (omega arith);
+    }
+
+pub sweep_gone : (old xs : List Step) (m : Members) (i n : ℕ) → Sweep old m i xs n → i < length old → (m (at xs i).place || m (at xs i).target) ≡ true → Sweep old m (i + 1) xs n
+sweep_gone old xs m i n t ho a =
+    let s : at xs i ≡ at old i = t.rest i (omega arith) in
+    let b : (m (at old i).place || m (at old i).target) ≡ true = ap (λ y. m y.place || m y.target) (sym s) ∙ a in
+    record {
+      low = omega (arith, t.low);
+      front = t.front
+          ∙ sym (append-nil (kept m (take i old)))
+          ∙ ap (λ ys. kept m (take i old) ++ ys) (sym (one_gone m (at old i) b))
+          ∙ sym (one_more old m i ho);
+      rest = λ j (q : i + 1 ≤ j). t.rest j (omega arith);
+    }
+
+pub carry : (P : List Step → ℕ → Type 0) (bs bs' : List Step) (a a' : ℕ) → bs' ≡ bs → a' ≡ a → P bs a → P bs' a'
+carry P bs bs' a a' e f x = subst (λ (y : List Step). P y a') (sym e) (subst (λ (b : ℕ). P bs b) (sym f) x)

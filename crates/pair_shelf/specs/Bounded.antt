@@ -1,12 +1,14 @@
 -- The pairs keep a shelf's bounds. The proof stands here and not among the proofs, because the ghost member `bounds` cites it.
-use Rattle.std.specs.Prelude.{◌≡◌, ◌+◌, ◌<◌, ◌≤◌, true, false, cond, ◌&&◌, List, [], ◌∷◌, length, Some, None, ◌==◌, nat_lt}
+use Rattle.std.specs.Prelude.{◌≡◌, ℕ, suc, ◌+◌, ◌<◌, ◌≤◌, true, false, cond, ◌&&◌, List, [], ◌∷◌, ◌++◌, length, take, Some, None, ◌==◌, nat_lt, refl}
 use Rattle.std.specs.List.{fold}
-use Rattle.std.proofs.Common.{sym, ap, ◌∙◌, ⊎_elim, arith}
-use Rattle.std.proofs.lemmas.Bool.{and_parts, ltb-true, eqb-true, cases_Bool}
-use Rattle.memory.specs.Steps.{Map, size, Bounds, Within, nothing}
+use Rattle.std.proofs.Common.{sym, ap, ◌∙◌, ⊎_elim, length-take, length-take-le, arith}
+use Rattle.std.proofs.lemmas.Bool.{and_from, and_parts, ltb-true, eqb-true, cases_Bool}
+use Rattle.std.proofs.lemmas.List.Sums.{fold-append}
+use Rattle.std.proofs.Math.Seq.{take-suc}
+use Rattle.memory.specs.Steps.{Map, noted, size, Bounds, Within, nothing}
 use Rattle.memory.proofs.Sizes.{size_noted, size_nothing, none_is}
 use Rattle.pair_shelf.specs.declared.step.Step.{Step}
-use Rattle.pair_shelf.specs.Pairs.{pairs, distinct, new, new_in_turn, with_step}
+use Rattle.pair_shelf.specs.Pairs.{pairs, distinct, no_step, at, new, new_in_turn, with_step}
 
 pub record New (f : Map) (s : Step) : Type 0 where
   pub from : s.place < 64
@@ -65,3 +67,28 @@ pair_bounds xs h e = record {
   within = pairs_within xs e;
   fits = omega (arith, pairs_size xs e);
 }
+
+-- the same of a table of which the first n steps are in use
+pub pairs_zero : (xs : List Step) → pairs (take 0 xs) ≡ nothing
+pairs_zero xs = refl
+
+pub pairs_suc : (xs : List Step) (n : ℕ) → n < length xs → pairs (take (suc n) xs) ≡ noted (pairs (take n xs)) (at xs n).place (at xs n).class (at xs n).target
+pairs_suc xs n h = ap pairs (take-suc xs n no_step h) ∙ fold-append with_step nothing (take n xs) (at xs n ∷ [])
+
+turn_split : (f : Map) (xs ys : List Step) → new_in_turn f (xs ++ ys) ≡ true → (new_in_turn f xs ≡ true) × (new_in_turn (fold with_step f xs) ys ≡ true)
+turn_split f [] ys e = (refl, e)
+turn_split f (x ∷ xs) ys e =
+    let a = and_parts (new f x) (new_in_turn (with_step f x) (xs ++ ys)) e in
+    let b = turn_split (with_step f x) xs ys a.1 in
+    (and_from (new f x) (new_in_turn (with_step f x) xs) a.0 b.0, b.1)
+
+pub fine_last : (xs : List Step) (n : ℕ) → n < length xs → distinct (take (suc n) xs) ≡ true → New (pairs (take n xs)) (at xs n) × (distinct (take n xs) ≡ true)
+fine_last xs n h e =
+    let a = turn_split nothing (take n xs) (at xs n ∷ []) (sym (ap distinct (take-suc xs n no_step h)) ∙ e) in
+    ((first_new (pairs (take n xs)) (at xs n) [] a.1).0, a.0)
+
+pub table_size : (xs : List Step) (n : ℕ) → n ≤ length xs → distinct (take n xs) ≡ true → size 64 (pairs (take n xs)) ≡ n
+table_size xs n h e = omega (arith, pairs_size (take n xs) e, length-take-le n xs h)
+
+pub table_bounds : (xs : List Step) (n : ℕ) → n ≤ 512 → distinct (take n xs) ≡ true → Bounds 64 512 (pairs (take n xs))
+table_bounds xs n h e = pair_bounds (take n xs) (omega (arith, length-take n xs)) e

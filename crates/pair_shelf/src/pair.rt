@@ -1,30 +1,33 @@
-ghost use Rattle.std.specs.Prelude.{◌≡◌, ◌≤◌, ◌==◌, ◌&&◌, true, length, reverse};
+ghost use Rattle.std.specs.Prelude.{◌≡◌, ◌≤◌, ◌==◌, ◌&&◌, true, length, reverse, take};
 ghost use Rattle.std.specs.List.{find};
 ghost use Rattle.std.specs.Option.{option_map};
+ghost use Rattle.sets.specs.Places.{member};
 ghost use Rattle.memory.specs.Steps.{nothing};
-ghost use Rattle.pair_shelf.specs.Bounded.{pair_bounds};
-ghost use Rattle.pair_shelf.specs.Pairs.{pairs, distinct};
+ghost use Rattle.pair_shelf.specs.Bounded.{table_bounds};
+ghost use Rattle.pair_shelf.specs.Pairs.{pairs, distinct, kept};
 
 use crate::step::Step;
-use arrayvec::ArrayVec;
 use memory::shelf::Shelf;
 use sets::PlaceSet;
 
-// Up to 512 steps, no two from one place for one class.
+// Up to 512 steps, no two from one place for one class. Only the first `len` of the table mean anything, so
+// that emptying writes one number and a step that is dropped is written over later, if ever.
 #[derive(Drop)]
 pub struct PairShelf {
-    steps: ArrayVec<Step, 512>,
-    ghost low: { length steps.items ≤ 512 },
-    ghost ok: { distinct steps.items ≡ true },
+    steps: [Step; 512],
+    len: usize,
+    ghost low: { len ≤ 512 },
+    ghost ok: { distinct (take len steps) ≡ true },
 }
 
 impl PairShelf {
     // A shelf without a step.
     pub fn new() -> PairShelf
-        ensures { pairs result.steps.items ≡ nothing }
+        ensures { pairs (take result.len result.steps) ≡ nothing }
     {
         PairShelf {
-            steps: ArrayVec::new(),
+            steps: [Step::default(); 512],
+            len: 0,
         }
     }
 }
@@ -34,49 +37,50 @@ impl Shelf for PairShelf {
 
     ghost most = { λ _. 512 };
 
-    ghost steps = { λ s. pairs s.steps.items };
+    ghost steps = { λ s. pairs (take s.len s.steps) };
 
-    ghost bounds = { λ s. pair_bounds s.steps.items s.low s.ok };
+    ghost bounds = { λ s. table_bounds s.steps s.len s.low s.ok };
 
     fn places(&self) -> u8 {
         64
     }
 
     fn capacity(&self) -> usize {
-        self.steps.capacity()
+        512
     }
 
     fn know(&self, place: u8, class: u16) -> Option<u8> {
-        find_step(&self.steps, place, class)
+        find_step(&self.steps[..self.len], place, class)
     }
 
     fn count(&self) -> usize {
-        self.steps.len()
+        self.len
     }
 
     fn empty(&mut self) {
-        self.steps.clear();
+        self.len = 0;
     }
 
     fn note(&mut self, place: u8, class: u16, target: u8) -> bool {
         if place >= 64 || target >= 64 || class >= 256 {
             return false;
         }
-        if self.steps.is_full() || self.know(place, class).is_some() {
+        if self.len >= 512 || self.know(place, class).is_some() {
             return false;
         }
-        self.steps.push(Step {
+        self.steps[self.len] = Step {
             place,
             class,
             target,
-        });
+        };
+        self.len += 1;
         true
     }
 
     fn drop_places(&mut self, places: PlaceSet) -> usize {
-        let before = self.steps.len();
-        self.steps.retain(|s| !s.touches(places));
-        before - self.steps.len()
+        let before = self.len;
+        self.len = keep_steps(&mut self.steps, before, places);
+        before - self.len
     }
 }
 
@@ -88,4 +92,22 @@ fn find_step(steps: &[Step], place: u8, class: u16) -> Option<u8>
         .rev()
         .find(|s| place == s.place && class == s.class)
         .map(|s| s.target)
+}
+
+// Brings those of the first `len` steps that are neither from nor to the places to the front, in their order,
+// and answers how many they are.
+fn keep_steps(steps: &mut [Step], len: usize, places: PlaceSet) -> usize
+    requires { len ≤ length steps.old }
+    ensures few { result ≤ len }
+    ensures kept { take result steps.new ≡ kept (member places) (take len steps.old) }
+{
+    let mut n = 0;
+    for i in 0..len {
+        let s = steps[i];
+        if !s.touches(places) {
+            steps[n] = s;
+            n += 1;
+        }
+    }
+    n
 }

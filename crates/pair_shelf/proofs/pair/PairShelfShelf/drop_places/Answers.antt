@@ -1,24 +1,26 @@
-use Rattle.std.proofs.Common.{◌≡◌, refl, ap, ◌∙◌, arith, rules}
+use Rattle.std.proofs.Common.{◌≡◌, true, take, refl, ap, ◌∙◌, arith}
 use Rattle.sets.specs.Places.{member}
-use Rattle.arrayvec.proofs.ArrayVecLemmas.{filter-from_retain}
 use Rattle.pair_shelf.specs.Pairs.{pairs, distinct}
-use Rattle.pair_shelf.specs.Bounded.{pairs_size}
-use Rattle.pair_shelf.proofs.Keep.{kept, pairs_kept, distinct_kept}
+use Rattle.pair_shelf.specs.Bounded.{table_size}
+use Rattle.pair_shelf.proofs.Keep.{pairs_kept, distinct_kept}
 use Rattle.pair_shelf.proofs.pair.PairShelfShelf.drop_places.Goals as goal
 
 pub invariant_of-self : goal.invariant_of-self
 invariant_of-self c =
     let s = c.args.self.now in
-    let e : c.retain.new.self.items ≡ kept (member c.args.places) s.steps.items = filter-from_retain _ _ _ (λ x b f' y called. search rules) _ _ c.retain.ensures.filtered in
-    record { low = omega arith; ok = ap distinct e ∙ distinct_kept (member c.args.places) s.steps.items s.ok }
+    let k = c.keep_steps-self.ensures in
+    record { low = omega (arith, k.few); ok = ap distinct k.kept ∙ distinct_kept (member c.args.places) (take s.len s.steps) s.ok }
 
 pub returns : goal.returns
 returns c =
     let s = c.args.self.now in
-    let e : c.retain.new.self.items ≡ kept (member c.args.places) s.steps.items = filter-from_retain _ _ _ (λ x b f' y called. search rules) _ _ c.retain.ensures.filtered in
+    let k = c.keep_steps-self.ensures in
+    let t = c.keep_steps-self.new.steps in
+    let n = c.keep_steps-self.result in
+    let ok : distinct (take n t) ≡ true = ap distinct k.kept ∙ distinct_kept (member c.args.places) (take s.len s.steps) s.ok in
     record {
       room = refl;
       most = refl;
-      map = ap pairs e ∙ pairs_kept (member c.args.places) s.steps.items s.ok;
-      answer = omega (arith, pairs_size s.steps.items s.ok, pairs_size c.retain.new.self.items (ap distinct e ∙ distinct_kept (member c.args.places) s.steps.items s.ok));
+      map = ap pairs k.kept ∙ pairs_kept (member c.args.places) (take s.len s.steps) s.ok;
+      answer = omega (arith, k.few, table_size s.steps s.len (omega arith) s.ok, table_size t n (omega (arith, k.few)) ok);
     }
