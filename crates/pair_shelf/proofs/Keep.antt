@@ -1,5 +1,5 @@
 -- What noting one step more, looking one up and dropping some do to the map and to the distinctness of a table.
-use Rattle.std.proofs.Common.{◌≡◌, ℕ, zero, suc, ◌+◌, ◌<◌, ◌≤◌, Bool, true, false, cond, not, ◌&&◌, ◌||◌, eqb, List, [], ◌∷◌, ◌++◌, length, take, set, reverse, filter, Some, None, Option, sym, refl, ap, ◌∙◌, ⊎_elim, subst, arith, get_or-set_other}
+use Rattle.std.proofs.Common.{◌≡◌, ℕ, zero, suc, ◌+◌, ◌<◌, ◌≤◌, Bool, true, false, cond, not, ◌&&◌, ◌||◌, eqb, List, [], ◌∷◌, ◌++◌, length, take, set, reverse, Some, None, Option, sym, refl, ap, ◌∙◌, ⊎_elim, subst, arith, get_or-set_other}
 use mathlib.Core.Path.{fun_ext}
 use Rattle.std.specs.List.{fold, find}
 use Rattle.std.specs.Option.{option_map, option_or}
