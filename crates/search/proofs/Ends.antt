@@ -2,6 +2,7 @@
 use Rattle.std.proofs.Common.{◌≡◌, ℕ, suc, ◌+◌, ◌<◌, ◌≤◌, Bool, true, false, cond, not, ◌&&◌, eqb, ltb, ◌⊎◌, List, [], ◌∷◌, ◌++◌, length, drop, Some, None, Option, sym, refl, ap, ◌∙◌, subst, inl, inr, ⊎_elim, arith}
 use mathlib.Core.Path.{fun_ext}
 use Rattle.std.proofs.lemmas.Bool.{cases_lt, cases_Bool, lt-ltb, le-ltb, ne_eqb, eq-eqb}
+use Rattle.std.proofs.lemmas.List.{append-nil}
 use Rattle.refusal.specs.declared.Cause.{Cause}
 use Rattle.refusal.specs.declared.Cause.TheVariants.{RecordTooLong, FromPastEnd, LimitTooLarge}
 use Rattle.refusal.specs.declared.Refusal.{Refusal}
@@ -118,6 +119,14 @@ module _ {Sym : Type 0} (X : Subject Sym PositionSet) where
       searched (Lists r f entries) k refl (accepted r f l h) (ap (λ y. Searched (Listed y rest) k) ex ∙ ap (λ y. Searched (Listed (list X.machine r entries f).written y) k) er) w
 
   -- a find from its two scans
+
+  pub find_none : (r : List Sym) (f : ℕ) → start X.machine f (drop f r) ≡ None → None ≡ find X.machine r f
+  find_none r f e = sym (ap (from_start X.machine r) e)
+
+  pub walk_none : (m n : Memory PositionSet) (r : List Sym) (f : ℕ) (k : Tallies) → start X.machine f (drop f r) ≡ None → Walk X m (back_reads X.machine (drop f r)) n k → Walk X m (find_reads X.machine r f) n k
+  walk_none m n r f k e w =
+      let P : List (Read Sym PositionSet) → Type 0 = λ xs. Walk X m xs n k in
+      subst P (sym (ap (λ o. back_reads X.machine (drop f r) ++ start_reads X.machine r o) e ∙ append-nil (back_reads X.machine (drop f r)))) w
 
   pub find_some : (r : List Sym) (f s e : ℕ) → start X.machine f (drop f r) ≡ Some s → e ≡ far X.machine s s X.machine.begin (drop s r) → Some (record { start = s; end = e }) ≡ find X.machine r f
   find_some r f s e h z = ap (λ y. Some (record { start = s; end = y })) z ∙ sym (ap (from_start X.machine r) h)

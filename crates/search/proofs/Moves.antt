@@ -1,8 +1,8 @@
 -- One read, put together from its seatings.
-use Rattle.std.proofs.Common.{◌≡◌, ℕ, ◌+◌, ◌<◌, true, ◌⊎◌, List, get_or, Some, None, Option, sym, refl, ap, ◌∙◌, subst, arith}
+use Rattle.std.proofs.Common.{◌≡◌, ℕ, ◌+◌, ◌<◌, true, ◌⊎◌, List, get_or, IfSome, Some, None, Option, sym, refl, ap, ◌∙◌, subst, arith, MatchOption}
 use Rattle.sets.specs.Members.{Members}
 use Rattle.sets.specs.Positions.{PositionSet}
-use Rattle.memory.specs.Steps.{Map, size}
+use Rattle.memory.specs.Steps.{Map, Bounds, size}
 use Rattle.theory.specs.declared.Direction.{Direction}
 use Rattle.theory.specs.Reads.{State}
 use Rattle.law.specs.Subject.{Subject, leads, Proper}
@@ -16,6 +16,14 @@ use Rattle.search.specs.declared.scanner.Move.{Move}
 use Rattle.search.specs.Counted.{tallied}
 use Rattle.search.specs.Remembered.{no_set, state, lives, Notable, Moved}
 use Rattle.search.proofs.Views.{is_here}
+
+pub known_of : (m : Memory PositionSet) (place : Option ℕ) (p c : ℕ) (o : Option ℕ) → place ≡ Some p → o ≡ m.known p c → MatchOption o (Unknown m place c) (λ t. (p' : ℕ) × (place ≡ Some p') × (m.known p' c ≡ Some t))
+known_of m place p c None e h = let P : Option ℕ → Type 0 = λ x. Unknown m x c in subst P (sym e) (sym h)
+known_of m place p c (Some q) e h = (p, e, sym h)
+
+pub low_of : (n m : ℕ) (f : Map) (p c : ℕ) (o : Option ℕ) → Bounds n m f → o ≡ f p c → IfSome o (λ t. t < 64)
+low_of n m f p c None b h = tt
+low_of n m f p c (Some q) b h = omega (arith, (b.within p c q (sym h)).2, b.few)
 
 pub gone_of : (gone r n n' k : ℕ) (f f' : Map) → gone ≡ r → n' ≡ n → f ≡ f' → r + size n' f' ≡ k → gone + size n f ≡ k
 gone_of gone r n n' k f f' e a b z = rw (e, sym a, b) z

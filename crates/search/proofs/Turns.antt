@@ -4,7 +4,7 @@ use Rattle.std.proofs.lemmas.Bool.{ltb-true}
 use Rattle.theory.specs.declared.Span.{Span}
 use Rattle.law.specs.Reading.{Counts as Tallies, both, zeros}
 use Rattle.search.specs.declared.counts.Counts.{Counts}
-use Rattle.search.specs.Counted.{tallied, known_more, Bounded}
+use Rattle.search.specs.Counted.{tallied, known_more, Bounded, Low}
 
 pub bounded_as : (n : ℕ) (k : Counts) (t : Tallies) → tallied k ≡ t → t.reads ≤ n → t.known ≤ n → t.built ≤ n → t.plain ≤ n → t.dropped ≤ 49152 * n → Bounded n k
 bounded_as n k t e a b c d f =
@@ -15,6 +15,10 @@ bounded_as n k t e a b c d f =
       plain = omega (arith, ap (λ (t : Tallies). t.plain) e);
       dropped = omega (arith, ap (λ (t : Tallies). t.dropped) e);
     }
+
+pub low_bounded : (n : ℕ) (k : Counts) → n ≤ 70368744177664 → Bounded n k → Low k
+low_bounded n k l b =
+    record { reads = omega (arith, b.reads); known = omega (arith, b.known); built = omega (arith, b.built); plain = omega (arith, b.plain); dropped = omega (arith, b.dropped) }
 
 pub no_counts : (k : Counts) → (k.reads ≡ 0) × ((k.known ≡ 0) × ((k.built ≡ 0) × ((k.plain ≡ 0) × (k.dropped ≡ 0)))) → tallied k ≡ zeros
 no_counts k e = rw (e.0, e.1.0, e.1.1.0, e.1.1.1.0, e.1.1.1.1)
