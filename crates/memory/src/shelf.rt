@@ -15,6 +15,10 @@ pub trait Shelf {
     // Its map from place and class to place.
     ghost steps: { Self → ℕ → ℕ → Option ℕ };
 
+    // That the numbers it keeps beside its map agree with the map. True from its emptying on;
+    // the map itself does not rest on it.
+    ghost sound: { Self → Type 0 };
+
     // What every shelf proves of its places, its capacity and its map.
     ghost bounds: { (s : Self) → Bounds (room s) (most s) (steps s) };
 
@@ -30,18 +34,20 @@ pub trait Shelf {
 
     // How many steps it holds.
     fn count(&self) -> usize
-        ensures { result ≡ size (room self.now) (steps self.now) };
+        ensures { sound self.now → result ≡ size (room self.now) (steps self.now) };
 
     // Drops every step, whatever was there.
     fn empty(&mut self)
         ensures room { room self.new ≡ room self.old }
         ensures most { most self.new ≡ most self.old }
-        ensures map { steps self.new ≡ nothing };
+        ensures map { steps self.new ≡ nothing }
+        ensures sound { sound self.new };
 
     // Adds the step, or answers false and changes nothing.
     fn note(&mut self, place: u8, class: u16, target: u8) -> bool
         ensures room { room self.new ≡ room self.old }
         ensures most { most self.new ≡ most self.old }
+        ensures sound { sound self.old → sound self.new }
         ensures answer { result ≡ notable (room self.old) (most self.old) (steps self.old) place class target }
         ensures map { steps self.new ≡ after result (steps self.old) place class target };
 
@@ -49,6 +55,7 @@ pub trait Shelf {
     fn drop_places(&mut self, places: PlaceSet) -> usize
         ensures room { room self.new ≡ room self.old }
         ensures most { most self.new ≡ most self.old }
+        ensures sound { sound self.old → sound self.new }
         ensures map { steps self.new ≡ without (steps self.old) (member places) }
         ensures answer { result + size (room self.new) (steps self.new) ≡ size (room self.old) (steps self.old) };
 }

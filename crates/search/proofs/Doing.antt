@@ -27,7 +27,7 @@ use Rattle.search.proofs.Scans.{ready_next}
 use Rattle.search.proofs.Ends.{find_some, walk_some, find_answered, list_answered, whole_answered}
 
 module _ {M S P Sym : Type 0} (automaton : AutomatonMeaning M Sym) (shelf : ShelfMeaning S) (policy : PolicyMeaning P) (laws : (m : M) → Proper (automaton.subject m)) where
-  pub did_by : (s s' : Scanner M S P) (c : Request Sym) (a : Reply) → Ready automaton shelf policy s → Kept automaton s s' → Answered (subject automaton s) (memory shelf policy s) c (memory shelf policy s') a → Did automaton shelf policy s c s' a
+  pub did_by : (s s' : Scanner M S P) (c : Request Sym) (a : Reply) → Ready automaton shelf policy s → Kept automaton shelf s s' → Answered (subject automaton s) (memory shelf policy s) c (memory shelf policy s') a → Did automaton shelf policy s c s' a
   did_by s s' c a ready k w =
       record {
         answered = w;

@@ -97,7 +97,7 @@ module _ {M S P Sym : Type 0} (automaton : AutomatonMeaning M Sym) (shelf : Shel
       let n' = memory shelf policy (with_policy s q) in
       let same : n' ≡ n = told_policy shelf policy s q told in
       record {
-        ready = ready_next automaton shelf policy laws s (with_policy s q) h.ready (kept_policy automaton s q) (subst (λ y. Sound X y) (sym same) h.ready.sound);
+        ready = ready_next automaton shelf policy laws s (with_policy s q) h.ready (kept_policy automaton shelf s q) (subst (λ y. Sound X y) (sym same) h.ready.sound);
         held = λ p e.
             let pp : run.place ≡ p = some_one run.place p (sym place ∙ e) in
             ap n.live (sym pp) ∙ h.held ∙ ap (λ x. Some (state Back x)) (sym set);
@@ -148,7 +148,7 @@ module _ {M S P Sym : Type 0} (automaton : AutomatonMeaning M Sym) (shelf : Shel
       let n' = memory shelf policy (with_policy s q) in
       let same : n' ≡ n = told_policy shelf policy s q told in
       record {
-        ready = ready_next automaton shelf policy laws s (with_policy s q) h.ready (kept_policy automaton s q) (subst (λ y. Sound X y) (sym same) h.ready.sound);
+        ready = ready_next automaton shelf policy laws s (with_policy s q) h.ready (kept_policy automaton shelf s q) (subst (λ y. Sound X y) (sym same) h.ready.sound);
         held = λ p e.
             let pp : run.place ≡ p = some_one run.place p (sym place ∙ e) in
             ap n.live (sym pp) ∙ h.held ∙ ap (λ x. Some (state Ahead x)) (sym set);

@@ -130,10 +130,11 @@ module _ {Sym : Type 0} (X : Subject Sym PositionSet) where
 
 module _ {M S P Sym : Type 0} (automaton : AutomatonMeaning M Sym) (shelf : ShelfMeaning S) (policy : PolicyMeaning P) (laws : (m : M) → Proper (automaton.subject m)) where
   -- a searcher stays ready
-  pub ready_next : (s s' : Scanner M S P) → Ready automaton shelf policy s → Kept automaton s s' → Sound (subject automaton s) (memory shelf policy s') → Ready automaton shelf policy s'
+  pub ready_next : (s s' : Scanner M S P) → Ready automaton shelf policy s → Kept automaton shelf s s' → Sound (subject automaton s) (memory shelf policy s') → Ready automaton shelf policy s'
   ready_next s s' r k ok =
       record {
         sound = subst (λ y. Sound (automaton.subject y.now) (memory shelf policy s')) (sym k.automaton_same) ok;
+        counts = k.counts r.counts;
         flags = subst (λ y. Flagged (automaton.subject y.now).machine s') (sym k.automaton_same) (k.flags r.flags);
       }
 
@@ -148,7 +149,7 @@ module _ {M S P Sym : Type 0} (automaton : AutomatonMeaning M Sym) (shelf : Shel
       none_some : (q : ℕ) → None ≡ Some q → ⊥
       none_some q h = let z : ◌≡◌ {A = ℕ} 0 1 = cc in omega arith
 
-  pub backed_next : (s s' : Scanner M S P) (m : Memory PositionSet) (r : List Sym) (scan scan' : Scan (Option ℕ)) (a : Sym) (move : Move) (b : Bool) → Kept automaton s s' → scan.at ≡ scan'.at + 1 → scan'.at < length r → a ≡ get_or r scan'.at a → (Ready automaton shelf policy s → At Back (memory shelf policy s) scan.cursor → Moved (subject automaton s) (memory shelf policy s) Back scan.cursor.set a (memory shelf policy s') move) → scan'.cursor ≡ move.cursor → b ≡ (subject automaton s').machine.first move.cursor.set → scan'.mark ≡ cond b (Some scan'.at) scan.mark → tallied scan'.counts ≡ both (tallied scan.counts) (tallied move.counts) → Backed automaton shelf policy m r scan s → Backed automaton shelf policy m r scan' s'
+  pub backed_next : (s s' : Scanner M S P) (m : Memory PositionSet) (r : List Sym) (scan scan' : Scan (Option ℕ)) (a : Sym) (move : Move) (b : Bool) → Kept automaton shelf s s' → scan.at ≡ scan'.at + 1 → scan'.at < length r → a ≡ get_or r scan'.at a → (Ready automaton shelf policy s → At Back (memory shelf policy s) scan.cursor → Moved (subject automaton s) (memory shelf policy s) Back scan.cursor.set a (memory shelf policy s') move) → scan'.cursor ≡ move.cursor → b ≡ (subject automaton s').machine.first move.cursor.set → scan'.mark ≡ cond b (Some scan'.at) scan.mark → tallied scan'.counts ≡ both (tallied scan.counts) (tallied move.counts) → Backed automaton shelf policy m r scan s → Backed automaton shelf policy m r scan' s'
   backed_next s s' m r scan scan' a move b k e l is go cur f o z h =
       let X = subject automaton s in
       let law : Proper X = laws s.automaton.now in
@@ -180,7 +181,7 @@ module _ {M S P Sym : Type 0} (automaton : AutomatonMeaning M Sym) (shelf : Shel
       none_some : (q : ℕ) → None ≡ Some q → ⊥
       none_some q h = let z : ◌≡◌ {A = ℕ} 0 1 = cc in omega arith
 
-  pub aheaded_next : (s s' : Scanner M S P) (m : Memory PositionSet) (r : List Sym) (from : ℕ) (scan scan' : Scan ℕ) (a : Sym) (move : Move) (l : Bool) → Kept automaton s s' → scan'.at ≡ scan.at + 1 → scan.at < length r → a ≡ get_or r scan.at a → (Ready automaton shelf policy s → At Ahead (memory shelf policy s) scan.cursor → Moved (subject automaton s) (memory shelf policy s) Ahead scan.cursor.set a (memory shelf policy s') move) → scan'.cursor ≡ move.cursor → l ≡ (subject automaton s').machine.last move.cursor.set → scan'.mark ≡ cond l (scan.at + 1) scan.mark → tallied scan'.counts ≡ both (tallied scan.counts) (tallied move.counts) → (subject automaton s).machine.empty scan.cursor.set ≡ false → Aheaded automaton shelf policy m r from scan s → Aheaded automaton shelf policy m r from scan' s'
+  pub aheaded_next : (s s' : Scanner M S P) (m : Memory PositionSet) (r : List Sym) (from : ℕ) (scan scan' : Scan ℕ) (a : Sym) (move : Move) (l : Bool) → Kept automaton shelf s s' → scan'.at ≡ scan.at + 1 → scan.at < length r → a ≡ get_or r scan.at a → (Ready automaton shelf policy s → At Ahead (memory shelf policy s) scan.cursor → Moved (subject automaton s) (memory shelf policy s) Ahead scan.cursor.set a (memory shelf policy s') move) → scan'.cursor ≡ move.cursor → l ≡ (subject automaton s').machine.last move.cursor.set → scan'.mark ≡ cond l (scan.at + 1) scan.mark → tallied scan'.counts ≡ both (tallied scan.counts) (tallied move.counts) → (subject automaton s).machine.empty scan.cursor.set ≡ false → Aheaded automaton shelf policy m r from scan s → Aheaded automaton shelf policy m r from scan' s'
   aheaded_next s s' m r from scan scan' a move l k e lt is go cur f o z live h =
       let X = subject automaton s in
       let law : Proper X = laws s.automaton.now in

@@ -123,25 +123,26 @@ pub less_out : (f x : Members) (k : ℕ) → x k ≡ true → less f x k ≡ fal
 less_out f x k h = ap (λ y. f k && not y) h ∙ and_false (f k)
 
 -- what is kept over two changes is kept over both
-pub kept_then : {M S P Sym : Type 0} (automaton : AutomatonMeaning M Sym) (a b c : Scanner M S P) → Kept automaton a b → Kept automaton b c → Kept automaton a c
-kept_then automaton a b c k l =
+pub kept_then : {M S P Sym : Type 0} (automaton : AutomatonMeaning M Sym) (shelf : ShelfMeaning S) (a b c : Scanner M S P) → Kept automaton shelf a b → Kept automaton shelf b c → Kept automaton shelf a c
+kept_then automaton shelf a b c k l =
     record {
       automaton_same = l.automaton_same ∙ k.automaton_same;
+      counts = λ h. l.counts (k.counts h);
       flags = λ h. subst (λ y. Flagged (automaton.subject y.now).machine b → Flagged (automaton.subject y.now).machine c) k.automaton_same l.flags (k.flags h);
     }
 
-pub kept_same : {M S P Sym : Type 0} (automaton : AutomatonMeaning M Sym) (a b : Scanner M S P) → b ≡ a → Kept automaton a b
-kept_same automaton a b e =
-    subst (λ y. Kept automaton a y) (sym e) (record { automaton_same = refl; flags = λ h. h })
+pub kept_same : {M S P Sym : Type 0} (automaton : AutomatonMeaning M Sym) (shelf : ShelfMeaning S) (a b : Scanner M S P) → b ≡ a → Kept automaton shelf a b
+kept_same automaton shelf a b e =
+    subst (λ y. Kept automaton shelf a y) (sym e) (record { automaton_same = refl; counts = λ h. h; flags = λ h. h })
 
 -- a policy that was asked or touched
 abbrev pub with_policy : {M S P : Type 0} → Scanner M S P → P → Scanner M S P
 with_policy s q =
     record { automaton = s.automaton; shelf = s.shelf; policy = q; sets = s.sets; live = s.live; back = s.back; begins = s.begins; ends = s.ends; empties = s.empties; limit = s.limit }
 
-pub kept_policy : {M S P Sym : Type 0} (automaton : AutomatonMeaning M Sym) (s : Scanner M S P) (q : P) → Kept automaton s (with_policy s q)
-kept_policy automaton s q =
-    record { automaton_same = refl; flags = λ f. record { begins = f.begins; ends = f.ends; empties = f.empties } }
+pub kept_policy : {M S P Sym : Type 0} (automaton : AutomatonMeaning M Sym) (shelf : ShelfMeaning S) (s : Scanner M S P) (q : P) → Kept automaton shelf s (with_policy s q)
+kept_policy automaton shelf s q =
+    record { automaton_same = refl; counts = λ h. h; flags = λ f. record { begins = f.begins; ends = f.ends; empties = f.empties } }
 
 pub told_policy : {M S P : Type 0} (shelf : ShelfMeaning S) (policy : PolicyMeaning P) (s : Scanner M S P) (q : P) → policy.live q ≡ policy.live s.policy → memory shelf policy (with_policy s q) ≡ memory shelf policy s
 told_policy shelf policy s q e = same_memory (memory shelf policy (with_policy s q)) (memory shelf policy s) refl refl e refl refl refl
@@ -151,9 +152,9 @@ abbrev pub with_shelf : {M S P : Type 0} → Scanner M S P → S → Scanner M S
 with_shelf s q =
     record { automaton = s.automaton; shelf = q; policy = s.policy; sets = s.sets; live = s.live; back = s.back; begins = s.begins; ends = s.ends; empties = s.empties; limit = s.limit }
 
-pub kept_shelf : {M S P Sym : Type 0} (automaton : AutomatonMeaning M Sym) (s : Scanner M S P) (q : S) → Kept automaton s (with_shelf s q)
-kept_shelf automaton s q =
-    record { automaton_same = refl; flags = λ f. record { begins = f.begins; ends = f.ends; empties = f.empties } }
+pub kept_shelf : {M S P Sym : Type 0} (automaton : AutomatonMeaning M Sym) (shelf : ShelfMeaning S) (s : Scanner M S P) (q : S) → (shelf.sound s.shelf → shelf.sound q) → Kept automaton shelf s (with_shelf s q)
+kept_shelf automaton shelf s q e =
+    record { automaton_same = refl; counts = e; flags = λ f. record { begins = f.begins; ends = f.ends; empties = f.empties } }
 
 pub same_bool : (a b : Bool) → not (beq a b) ≡ false → a ≡ b
 same_bool true true e = refl
@@ -166,9 +167,9 @@ abbrev pub with_most : {M S P : Type 0} → Scanner M S P → ℕ → Scanner M 
 with_most s l =
     record { automaton = s.automaton; shelf = s.shelf; policy = s.policy; sets = s.sets; live = s.live; back = s.back; begins = s.begins; ends = s.ends; empties = s.empties; limit = l }
 
-pub kept_limit : {M S P Sym : Type 0} (automaton : AutomatonMeaning M Sym) (s : Scanner M S P) (l : ℕ) → Kept automaton s (with_most s l)
-kept_limit automaton s l =
-    record { automaton_same = refl; flags = λ f. record { begins = f.begins; ends = f.ends; empties = f.empties } }
+pub kept_limit : {M S P Sym : Type 0} (automaton : AutomatonMeaning M Sym) (shelf : ShelfMeaning S) (s : Scanner M S P) (l : ℕ) → Kept automaton shelf s (with_most s l)
+kept_limit automaton shelf s l =
+    record { automaton_same = refl; counts = λ h. h; flags = λ f. record { begins = f.begins; ends = f.ends; empties = f.empties } }
 
 pub and_lt : (i n : ℕ) (x : Bool) → true ≡ (ltb i n && x) → i < n
 and_lt i n x e = ltb-true i n (and_parts (ltb i n) x (sym e)).0

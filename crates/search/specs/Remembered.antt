@@ -73,11 +73,13 @@ pub record Flagged {M S P Sym : Type 0} (m : Machine Sym PositionSet) (s : Scann
 -- what holds of a searcher from its opening on
 pub record Ready {M S P Sym : Type 0} (automaton : AutomatonMeaning M Sym) (shelf : ShelfMeaning S) (policy : PolicyMeaning P) (s : Scanner M S P) : Type 0 where
   pub sound : Sound (subject automaton s) (memory shelf policy s)
+  pub counts : shelf.sound s.shelf
   pub flags : Flagged (subject automaton s).machine s
 
 -- what every change of a searcher keeps, beside its memory
-pub record Kept {M S P Sym : Type 0} (automaton : AutomatonMeaning M Sym) (before after : Scanner M S P) : Type 0 where
+pub record Kept {M S P Sym : Type 0} (automaton : AutomatonMeaning M Sym) (shelf : ShelfMeaning S) (before after : Scanner M S P) : Type 0 where
   pub automaton_same : after.automaton ≡ before.automaton
+  pub counts : shelf.sound before.shelf → shelf.sound after.shelf
   pub flags : Flagged (subject automaton before).machine before → Flagged (subject automaton before).machine after
 
 -- the step may be noted once there is room
@@ -100,7 +102,7 @@ pub record Moved {Sym : Type 0} (X : Subject Sym PositionSet) (m : Memory Positi
 
 -- with S seated `here`, where the memory is h and no step is known for the class c, a symbol of that class was read:
 -- then n is remembered
-abbrev pub Builds : {Sym : Type 0} → Subject Sym PositionSet → Direction → PositionSet → ℕ → Seating → Memory PositionSet → Memory PositionSet → Move → Type 0
-Builds {Sym} X d S c here h n move =
-    (m : Memory PositionSet) (a : Sym) → Sound X m → Seated m (state d S) None h here.place here.gone →
+abbrev pub Builds : {Sym : Type 0} → Subject Sym PositionSet → Type 0 → Direction → PositionSet → ℕ → Seating → Memory PositionSet → Memory PositionSet → Move → Type 0
+Builds {Sym} X counts d S c here h n move =
+    (m : Memory PositionSet) (a : Sym) → Sound X m → counts → Seated m (state d S) None h here.place here.gone →
     Unknown h here.place c → X.fit a ≡ true → c ≡ X.class_of a → Moved X m d S a n move

@@ -113,7 +113,7 @@ impl<'p, M: Automaton, S: Shelf, P: Policy> Scanner<'p, M, S, P> {
 
     // How many steps are known.
     pub(crate) fn known_steps(&self) -> usize
-        ensures { result ≡ steps_known (memory S.Shelf P.Policy self.now) }
+        ensures { S.Shelf.sound self.now.shelf → result ≡ steps_known (memory S.Shelf P.Policy self.now) }
     {
         self.shelf.count()
     }

@@ -61,7 +61,7 @@ impl<'p, M: Automaton, S: Shelf, P: Policy> Scanner<'p, M, S, P> {
         ensures dropped { memory S.Shelf P.Policy self.new ≡ without_places (memory S.Shelf P.Policy self.old) (member places) }
         ensures gone { result + steps_known (without_places (memory S.Shelf P.Policy self.old) (member places)) ≡ steps_known (memory S.Shelf P.Policy self.old) }
         ensures live { member self.new.live ≡ less (member self.old.live) (member places) }
-        ensures kept { Kept M.Automaton self.old self.new }
+        ensures kept { Kept M.Automaton S.Shelf self.old self.new }
         ensures heard { Heard P.Policy self.old.policy (dropped (member places) ∷ []) self.new.policy }
     {
         let gone = self.shelf.drop_places(places);
@@ -74,7 +74,7 @@ impl<'p, M: Automaton, S: Shelf, P: Policy> Scanner<'p, M, S, P> {
     fn put(&mut self, place: u8, set: PositionSet, direction: Direction)
         requires { place < 64 }
         ensures put { memory S.Shelf P.Policy self.new ≡ with_set (memory S.Shelf P.Policy self.old) place (state direction set) }
-        ensures kept { Kept M.Automaton self.old self.new }
+        ensures kept { Kept M.Automaton S.Shelf self.old self.new }
         ensures heard { Heard P.Policy self.old.policy (seated place ∷ []) self.new.policy }
     {
         let back = mark(self.back, place, is_back(direction));
@@ -99,7 +99,7 @@ impl<'p, M: Automaton, S: Shelf, P: Policy> Scanner<'p, M, S, P> {
     ) -> Seating
         ensures seated { Seated (memory S.Shelf P.Policy self.old) (state direction set) held (memory S.Shelf P.Policy self.new) result.place result.gone }
         ensures small { result.gone ≤ 16384 }
-        ensures kept { Kept M.Automaton self.old self.new }
+        ensures kept { Kept M.Automaton S.Shelf self.old self.new }
         ensures heard { SeatingHeard S.Shelf P.Policy self.old set direction held self.new result.place }
     {
         if let Some(p) = self.place_of(set, direction) {
@@ -136,7 +136,7 @@ impl<'p, M: Automaton, S: Shelf, P: Policy> Scanner<'p, M, S, P> {
     pub(in crate::scanner) fn settle(&mut self, direction: Direction, cursor: Cursor) -> Seating
         ensures seated { At direction (memory S.Shelf P.Policy self.old) cursor → Seated (memory S.Shelf P.Policy self.old) (state direction cursor.set) None (memory S.Shelf P.Policy self.new) result.place result.gone }
         ensures small { result.gone ≤ 16384 }
-        ensures kept { Kept M.Automaton self.old self.new }
+        ensures kept { Kept M.Automaton S.Shelf self.old self.new }
         ensures heard { SettlingHeard S.Shelf P.Policy self.old direction cursor self.new result.place }
     {
         match cursor.place {

@@ -25,9 +25,9 @@ impl<'p, M: Automaton, S: Shelf, P: Policy> Scanner<'p, M, S, P> {
 
     // Notes a step; at full capacity every step is dropped before. Says how many were.
     fn note_step(&mut self, place: u8, class: u16, target: u8) -> usize
-        ensures noted { Notable (memory S.Shelf P.Policy self.old) place class target → Noted (memory S.Shelf P.Policy self.old) place class target (memory S.Shelf P.Policy self.new) result }
+        ensures noted { S.Shelf.sound self.old.shelf → Notable (memory S.Shelf P.Policy self.old) place class target → Noted (memory S.Shelf P.Policy self.old) place class target (memory S.Shelf P.Policy self.new) result }
         ensures small { result ≤ 16384 }
-        ensures kept { Kept M.Automaton self.old self.new }
+        ensures kept { Kept M.Automaton S.Shelf self.old self.new }
         ensures silent { self.new.policy ≡ self.old.policy }
     {
         let mut gone = 0;
@@ -41,9 +41,9 @@ impl<'p, M: Automaton, S: Shelf, P: Policy> Scanner<'p, M, S, P> {
     // A read that the shelf has no step for, in the set that was seated `here`: the step rule leads on.
     fn build(&mut self, direction: Direction, set: PositionSet, class: u16, here: Seating) -> Move
         requires { here.gone ≤ 16384 }
-        ensures moved { Builds (subject M.Automaton self.old) direction set class here (memory S.Shelf P.Policy self.old) (memory S.Shelf P.Policy self.new) result }
+        ensures moved { Builds (subject M.Automaton self.old) (S.Shelf.sound self.old.shelf) direction set class here (memory S.Shelf P.Policy self.old) (memory S.Shelf P.Policy self.new) result }
         ensures small { Bounded 1 result.counts }
-        ensures kept { Kept M.Automaton self.old self.new }
+        ensures kept { Kept M.Automaton S.Shelf self.old self.new }
         ensures heard { BuildingHeard S.Shelf P.Policy self.old direction here.place self.new result.cursor }
     {
         let target = self.automaton.step(direction, set, class);
@@ -75,7 +75,7 @@ impl<'p, M: Automaton, S: Shelf, P: Policy> Scanner<'p, M, S, P> {
     ) -> Move
         ensures moved { Ready M.Automaton S.Shelf P.Policy self.old → At direction (memory S.Shelf P.Policy self.old) cursor → Moved (subject M.Automaton self.old) (memory S.Shelf P.Policy self.old) direction cursor.set symbol (memory S.Shelf P.Policy self.new) result }
         ensures small { Bounded 1 result.counts }
-        ensures kept { Kept M.Automaton self.old self.new }
+        ensures kept { Kept M.Automaton S.Shelf self.old self.new }
         ensures heard { ReadingHeard S.Shelf P.Policy self.old direction cursor self.new result.cursor }
     {
         let class = self.automaton.class_of(symbol);

@@ -13,7 +13,7 @@ returns-in_default-clause-moved g c =
       | in_default-via-in-Some+in_default w ↦ inr w.in_default.is-1
       | in_default-via-in_default w ↦ inl w.in_default.is-0
     ] in
-    λ m a ok at u fit cl.
+    λ m a ok right at u fit cl.
     plain_moved (subject g.M.Automaton c.args.self.now) m _ _ c.args.direction c.args.set c.step-target.result a here.place there.place here.gone there.gone c.args.class c.plain.result
     ok fit cl (c.step-target.ensures a fit (sym cl)) at u c.seat-there.ensures.seated lost c.plain.ensures.cursor c.plain.ensures.counts
 
@@ -27,6 +27,6 @@ returns-clause-moved g c =
     let here = c.args.here in
     let there = c.seat-there.result in
     let e = c.seat-there.ensures in
-    λ m a ok at u fit cl.
+    λ m a ok right at u fit cl.
     built_moved (subject g.M.Automaton s) (g.met.M.Automaton.proper s.automaton.now) m _ _ _ c.args.direction c.args.set c.step-target.result a here.place there.place here.gone there.gone c.note_step-more.result c.args.class c.in-Some-Some.p c.in-Some-Some.t _
-    ok fit cl (c.step-target.ensures a fit (sym cl)) at u e.seated c.in-Some-Some.is-0 c.in-Some-Some.is-1 c.note_step-more.ensures.noted refl (search rules)
+    ok fit cl (c.step-target.ensures a fit (sym cl)) at u e.seated c.in-Some-Some.is-0 c.in-Some-Some.is-1 (c.note_step-more.ensures.noted (e.kept.counts right)) refl (search rules)

@@ -19,7 +19,7 @@ pub returns-then-count-allowance : goal.returns-then-count-allowance
 returns-then-count-allowance g c =
     let s = c.args.self.now in
     record {
-      did = λ ok. did_by g.M.Automaton g.S.Shelf g.P.Policy g.met.M.Automaton.proper s (with_most s c.args.limit) _ _ ok (kept_limit g.M.Automaton s c.args.limit)
+      did = λ ok. did_by g.M.Automaton g.S.Shelf g.P.Policy g.met.M.Automaton.proper s (with_most s c.args.limit) _ _ ok (kept_limit g.M.Automaton g.S.Shelf s c.args.limit)
           (limit_within (subject g.M.Automaton s) (memory g.S.Shelf g.P.Policy s) c.args.limit c.if-limit-gt64.false
           (omega (arith, c.count.ensures, c.allowance.ensures, counted (member s.live) (member s.back) s.sets)));
       idle = λ l. absurd (omega (arith, c.if-limit-gt64.false));
@@ -32,7 +32,7 @@ returns g c =
     let j = with_most s c.args.limit in
     let e = c.drop_these.ensures in
     record {
-      did = λ ok. did_by g.M.Automaton g.S.Shelf g.P.Policy g.met.M.Automaton.proper s c.drop_these.new.self _ _ ok (kept_then g.M.Automaton s j c.drop_these.new.self (kept_limit g.M.Automaton s c.args.limit) e.kept)
+      did = λ ok. did_by g.M.Automaton g.S.Shelf g.P.Policy g.met.M.Automaton.proper s c.drop_these.new.self _ _ ok (kept_then g.M.Automaton g.S.Shelf s j c.drop_these.new.self (kept_limit g.M.Automaton g.S.Shelf s c.args.limit) e.kept)
           (limit_beyond (subject g.M.Automaton s) (memory g.S.Shelf g.P.Policy s) _ c.args.limit (member c.all.result) c.drop_these.result ok.sound c.if-limit-gt64.false
           (omega (arith, c.count.ensures, c.allowance.ensures, counted (member s.live) (member s.back) s.sets)) c.all.ensures e.dropped e.gone);
       idle = λ l. absurd (omega (arith, c.if-limit-gt64.false));

@@ -24,9 +24,9 @@ returns g c =
           let room : g.S.Shelf.room j.shelf ≡ g.S.Shelf.room s.shelf = ap (λ y. g.S.Shelf.room y.shelf) w.self-is ∙ d.room in
           let most : g.S.Shelf.most j.shelf ≡ g.S.Shelf.most s.shelf = ap (λ y. g.S.Shelf.most y.shelf) w.self-is ∙ d.most in
           record {
-            noted = λ h.
+            noted = λ right h.
                 noted_full _ _ (g.S.Shelf.steps j.shelf) c.note.result p k t c.if-count-capacity.gone bounds h
-                (omega (arith, c.count.ensures, c.capacity.ensures))
+                (omega (arith, c.count.ensures right, c.capacity.ensures))
                 (ap (λ y. g.S.Shelf.steps y.shelf) w.self-is ∙ d.map ∙ ap (without (g.S.Shelf.steps s.shelf)) w.all.ensures)
                 (gone_of c.if-count-capacity.gone w.drop_places-gone.result (g.S.Shelf.room s.shelf) _ _ _ _ w.gone-is d.room (ap (λ y. g.S.Shelf.steps y.shelf) w.self-is) d.answer)
                 (n.answer ∙ ap (λ y. notable y (g.S.Shelf.most j.shelf) (g.S.Shelf.steps j.shelf) p k t) room ∙ ap (λ y. notable (g.S.Shelf.room s.shelf) y (g.S.Shelf.steps j.shelf) p k t) most)
@@ -36,9 +36,9 @@ returns g c =
                 (ap (λ y. y.limit) w.self-is)
                 (n.room ∙ room) (n.most ∙ most);
             small = omega (arith, w.gone-is, dropped_small w.drop_places-gone.result (g.S.Shelf.room s.shelf) _ (g.S.Shelf.steps s.shelf) bounds.few d.answer);
-            kept = kept_then g.M.Automaton s j (with_shelf j left)
-                (subst (λ y. Kept g.M.Automaton s y) (sym w.self-is) (kept_shelf g.M.Automaton s w.drop_places-gone.new.self))
-                (kept_shelf g.M.Automaton j left);
+            kept = kept_then g.M.Automaton g.S.Shelf s j (with_shelf j left)
+                (subst (λ y. Kept g.M.Automaton g.S.Shelf s y) (sym w.self-is) (kept_shelf g.M.Automaton g.S.Shelf s w.drop_places-gone.new.self d.sound))
+                (kept_shelf g.M.Automaton g.S.Shelf j left n.sound);
             silent = ap (λ y. y.policy) w.self-is;
           }
       | else-count-capacity w ↦
@@ -46,9 +46,9 @@ returns g c =
           let most : g.S.Shelf.most j.shelf ≡ g.S.Shelf.most s.shelf = ap (λ y. g.S.Shelf.most y.shelf) w.self-is in
           let map : g.S.Shelf.steps j.shelf ≡ g.S.Shelf.steps s.shelf = ap (λ y. g.S.Shelf.steps y.shelf) w.self-is in
           record {
-            noted = λ h.
+            noted = λ right h.
                 noted_spare _ _ c.note.result p k t c.if-count-capacity.gone h
-                (omega (arith, c.count.ensures, c.capacity.ensures))
+                (omega (arith, c.count.ensures right, c.capacity.ensures))
                 w.gone-is
                 (n.answer ∙ ap (λ y. notable (g.S.Shelf.room y.shelf) (g.S.Shelf.most y.shelf) (g.S.Shelf.steps y.shelf) p k t) w.self-is)
                 (n.map ∙ ap (λ y. after c.note.result y p k t) map)
@@ -57,9 +57,9 @@ returns g c =
                 (ap (λ y. y.limit) w.self-is)
                 (n.room ∙ room) (n.most ∙ most);
             small = omega (arith, w.gone-is);
-            kept = kept_then g.M.Automaton s j (with_shelf j left)
-                (kept_same g.M.Automaton s j w.self-is)
-                (kept_shelf g.M.Automaton j left);
+            kept = kept_then g.M.Automaton g.S.Shelf s j (with_shelf j left)
+                (kept_same g.M.Automaton g.S.Shelf s j w.self-is)
+                (kept_shelf g.M.Automaton g.S.Shelf j left n.sound);
             silent = ap (λ y. y.policy) w.self-is;
           }
     ]

@@ -20,6 +20,7 @@ returns g c =
       opened = same_memory _ _ (fun_ext (λ k. no_state (member c.empty-none.result k) _ (ap (λ f. f k) c.empty-none.ensures))) d.map told refl d.room d.most;
       ready = record {
         sound = subst (λ y. Sound (g.M.Automaton.subject c.args.automaton.now) y) (sym (same_memory _ _ (fun_ext (λ k. no_state (member c.empty-none.result k) _ (ap (λ f. f k) c.empty-none.ensures))) d.map told refl d.room d.most)) (sound_empty (g.M.Automaton.subject c.args.automaton.now) (opened (g.S.Shelf.room c.args.shelf) (g.S.Shelf.most c.args.shelf)) b.few b.some (omega arith));
+        counts = d.sound;
         flags = record {
           begins = λ k h. absurd (both_ways _ (ap (λ f. f k) c.empty-none.ensures) h);
           ends = λ k h. absurd (both_ways _ (ap (λ f. f k) c.empty-none.ensures) h);

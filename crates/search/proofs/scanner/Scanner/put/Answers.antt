@@ -16,6 +16,7 @@ returns g c =
       heard = (_, (c.seat.ensures.hears, refl));
       kept = record {
         automaton_same = refl;
+        counts = λ h. h;
         flags = λ f. record {
           begins = flag_put (member s.live) _ (member s.begins) _ s.sets (g.M.Automaton.subject s.automaton.now).machine.first p v c.has_first.result c.with-self.ensures c.mark-begins.ensures c.has_first.ensures c.requires low f.begins;
           ends = flag_put (member s.live) _ (member s.ends) _ s.sets (g.M.Automaton.subject s.automaton.now).machine.last p v c.has_last.result c.with-self.ensures c.mark-ends.ensures c.has_last.ensures c.requires low f.ends;

@@ -25,7 +25,7 @@ returns-in-Some g c =
       seated = already p (here (member s.live) (member s.back) s.sets p c.args.set c.args.direction h.1.0 h.1.1 h.1.2) refl
           (told_policy g.S.Shelf g.P.Policy s c.touch.new.self c.touch.ensures.live) refl;
       small = omega arith;
-      kept = kept_policy g.M.Automaton s c.touch.new.self;
+      kept = kept_policy g.M.Automaton g.S.Shelf s c.touch.new.self;
       heard = met_again p h.1 refl (_, (subst (λ x. g.P.Policy.hears s.policy (met x) c.touch.new.self) c.single.ensures c.touch.ensures.hears, refl));
     }
 
@@ -41,7 +41,7 @@ returns-then-is_empty g c =
           both_ways (member c.choose-places.result w.0) (ap (λ f. f w.0) c.if-is_empty.ensures) w.1)
           refl (told_policy g.S.Shelf g.P.Policy s q c.choose-places.ensures.same) refl;
       small = omega arith;
-      kept = kept_policy g.M.Automaton s q;
+      kept = kept_policy g.M.Automaton g.S.Shelf s q;
       heard = in_vain refl (_, (subst (λ x. g.P.Policy.hears s.policy (chose c.args.held x) q) c.if-is_empty.ensures c.choose-places.ensures.hears, refl));
     }
 
@@ -93,9 +93,9 @@ returns g c =
                 (c.put.ensures.put ∙ ap (λ (y : Memory PositionSet). with_set y p x) e)
                 (ap (λ y. y + steps_known (without_places m places)) w.gone-is ∙ gone);
             small = omega (arith, w.gone-is, dropped_small w.drop_these-gone.result m.places _ m.known (g.S.Shelf.bounds s.shelf).few gone);
-            kept = kept_then g.M.Automaton s j _
-                (subst (λ y. Kept g.M.Automaton s y) (sym w.self-is)
-                (kept_then g.M.Automaton s (with_policy s q) _ (kept_policy g.M.Automaton s q) w.drop_these-gone.ensures.kept))
+            kept = kept_then g.M.Automaton g.S.Shelf s j _
+                (subst (λ y. Kept g.M.Automaton g.S.Shelf s y) (sym w.self-is)
+                (kept_then g.M.Automaton g.S.Shelf s (with_policy s q) _ (kept_policy g.M.Automaton g.S.Shelf s q) w.drop_these-gone.ensures.kept))
                 c.put.ensures.kept;
             heard = made_free places p refl (c.put.ensures.put ∙ ap (λ (y : Memory PositionSet). with_set y p x) e) (
               q,
@@ -113,7 +113,7 @@ returns g c =
             seated = room p out (omega (arith, c.count.ensures, c.allowance.ensures, cnt)) (subst F e free) refl
                 (c.put.ensures.put ∙ ap (λ (y : Memory PositionSet). with_set y p x) e) w.gone-is;
             small = omega (arith, w.gone-is);
-            kept = subst (λ y. Kept g.M.Automaton y c.put.new.self) w.self-is c.put.ensures.kept;
+            kept = subst (λ y. Kept g.M.Automaton g.S.Shelf y c.put.new.self) w.self-is c.put.ensures.kept;
             heard = took_free p refl (c.put.ensures.put ∙ ap (λ (y : Memory PositionSet). with_set y p x) e)
                 (subst (λ y. Heard g.P.Policy y.policy (seated p ∷ []) c.put.new.self.policy) w.self-is c.put.ensures.heard);
           }

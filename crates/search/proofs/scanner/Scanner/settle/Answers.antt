@@ -11,7 +11,7 @@ returns-in-Some g c =
     record {
       seated = λ at. already c.in-Some.p (at c.in-Some.p c.in-Some.is) refl (told_policy g.S.Shelf g.P.Policy s c.touch.new.self c.touch.ensures.live) refl;
       small = omega arith;
-      kept = kept_policy g.M.Automaton s c.touch.new.self;
+      kept = kept_policy g.M.Automaton g.S.Shelf s c.touch.new.self;
       heard = stayed c.in-Some.p c.in-Some.is refl (_, (subst (λ x. g.P.Policy.hears s.policy (met x) c.touch.new.self) c.single.ensures c.touch.ensures.hears, refl));
     }
 
