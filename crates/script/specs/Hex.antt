@@ -1,5 +1,5 @@
 -- Bytes that are written with hexadecimal digits, two for each.
-use Rattle.std.specs.Prelude.{◌≡◌, ℕ, ◌+◌, ◌-◌, ◌*◌, cond, ◌&&◌, List, [], ◌∷◌, Some, None, Ok, Err, Option, Result, nat_le}
+use Rattle.std.specs.Prelude.{◌≡◌, ℕ, ◌+◌, ◌-◌, ◌*◌, cond, ◌&&◌, List, [], ◌∷◌, Some, None, Ok, Err, Option, Result, nat_le, codes}
 use Rattle.script.specs.declared.hex.HexError.{HexError}
 use Rattle.script.specs.declared.hex.HexError.TheVariants.{NotHex, NoMemory}
 
@@ -32,3 +32,8 @@ abbrev pub ReadAs : List ℕ → List ℕ → Result (Unit {0}) HexError → Typ
 ReadAs text bytes (Ok _) = bytes_of text ≡ Some bytes
 ReadAs text bytes (Err NotHex) = bytes_of text ≡ None
 ReadAs text bytes (Err NoMemory) = Unit {0}
+
+-- what it says to people that a text is not read
+abbrev pub hex_error_text : HexError → List ℕ
+hex_error_text NotHex = codes "the text is not pairs of hexadecimal digits"
+hex_error_text NoMemory = codes "out of memory"

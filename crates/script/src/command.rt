@@ -3,7 +3,8 @@ ghost use Rattle.std.specs.Prelude.{◌≡◌};
 ghost use Rattle.script.specs.Commands.{verb_of, kind_of, form_of, passed_over, asked_pattern, asked_by, asked, told_command, told};
 
 use crate::arguments::{parse_end, parse_number, parse_two};
-use crate::mistake::Mistake;
+// What the functions here fail with.
+pub use crate::mistake::Mistake;
 use crate::words::{before, behind, trimmed};
 
 // The notation of a pattern, or the kind of a record.

@@ -1,9 +1,11 @@
 // Hexadecimal digits.
-ghost use Rattle.std.specs.Prelude.{◌≡◌, ◌<◌, IfSome};
-ghost use Rattle.script.specs.Hex.{hex_of, pair_of, ReadAs};
+ghost use Rattle.std.specs.Prelude.{◌≡◌, ◌<◌, Some, IfSome};
+ghost use Rattle.script.specs.Hex.{hex_of, pair_of, ReadAs, hex_error_text};
 ghost use Rattle.script.specs.declared.hex.HexError.TheVariants.{NoMemory};
 
 use std::alloc::AllocFailed;
+use std::error::Error;
+use std::fmt;
 
 #[derive(Clone, Copy, Debug, PartialEq, Eq)]
 pub enum HexError {
@@ -11,6 +13,19 @@ pub enum HexError {
     NotHex,
     NoMemory,
 }
+
+impl fmt::Display for HexError {
+    ghost output = { λ error. Some (hex_error_text error) };
+
+    fn fmt<W: fmt::Write>(&self, f: &mut fmt::Formatter<W>) -> fmt::Result {
+        f.write_str(match self {
+            Self::NotHex => "the text is not pairs of hexadecimal digits",
+            Self::NoMemory => "out of memory",
+        })
+    }
+}
+
+impl Error for HexError {}
 
 impl<T: Drop> From<AllocFailed<T>> for HexError {
     ghost from_gives = { λ _ r. r ≡ NoMemory };
