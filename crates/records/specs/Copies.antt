@@ -1,5 +1,5 @@
 -- Copies of a piece, one after the other.
-use Rattle.std.specs.Prelude.{◌≡◌, ℕ, zero, suc, ◌*◌, ◌<◌, ◌≤◌, List, [], ◌++◌, length, Ok, Err, Result}
+use Rattle.std.specs.Prelude.{◌≡◌, ℕ, zero, suc, ◌*◌, ◌<◌, ◌≤◌, List, [], ◌++◌, length, Ok, Err, codes, Result}
 use Rattle.records.specs.declared.repeat.RepeatError.{RepeatError}
 use Rattle.records.specs.declared.repeat.RepeatError.TheVariants.{TooLong, NoMemory}
 
@@ -16,3 +16,8 @@ abbrev pub Repeated : {A : Type 0} → List A → ℕ → List A → Result (Uni
 Repeated piece count made (Ok _) = (count * length piece ≤ most_symbols) × (made ≡ copies count piece)
 Repeated piece count made (Err TooLong) = (most_symbols < count * length piece) × (made ≡ [])
 Repeated piece count made (Err NoMemory) = Unit {0}
+
+-- what it says to people that the copies are not made
+abbrev pub repeat_error_text : RepeatError → List ℕ
+repeat_error_text TooLong = codes "the copies have over 16,777,216 symbols"
+repeat_error_text NoMemory = codes "out of memory"

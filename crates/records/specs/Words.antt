@@ -1,5 +1,6 @@
 -- Events in one text, with spaces between.
-use Rattle.std.specs.Prelude.{◌≡◌, ℕ, ◌+◌, List, [], ◌∷◌, Some, None, Ok, Err, Option, Result}
+use Rattle.std.specs.Prelude.{◌≡◌, ℕ, ◌+◌, List, [], ◌∷◌, ◌++◌, Some, None, Ok, Err, codes, Option, Result}
+use Rattle.std.specs.Fmt.{decimal}
 use Rattle.records.specs.declared.events.EventsError.{EventsError}
 use Rattle.records.specs.declared.events.EventsError.TheVariants.{NotAnEvent, NoMemory}
 use Rattle.symbols.specs.declared.Event.{Event}
@@ -35,3 +36,8 @@ abbrev pub EventsRead : List ℕ → List Event → Result (Unit {0}) EventsErro
 EventsRead text es (Ok _) = events_of text ≡ Ok es
 EventsRead text es (Err (NotAnEvent k)) = (events_of text ≡ Err k) × (es ≡ [])
 EventsRead text es (Err NoMemory) = Unit {0}
+
+-- what it says to people that a text is not read
+abbrev pub events_error_text : EventsError → List ℕ
+events_error_text (NotAnEvent k) = codes "word " ++ decimal k ++ codes " is not an event"
+events_error_text NoMemory = codes "out of memory"

@@ -1,11 +1,13 @@
 // Events in one text, as KIND:VALUE@MOMENT with spaces between.
-ghost use Rattle.std.specs.Prelude.{◌≡◌};
-ghost use Rattle.records.specs.Words.{EventsRead};
+ghost use Rattle.std.specs.Prelude.{◌≡◌, Some};
+ghost use Rattle.records.specs.Words.{EventsRead, events_error_text};
 ghost use Rattle.records.specs.declared.events.EventsError.TheVariants.{NoMemory};
 
 use crate::blanks::stripped;
 use script::symbol::parse_event;
 use std::alloc::AllocFailed;
+use std::error::Error;
+use std::fmt;
 use symbols::Event;
 
 #[derive(Clone, Copy, Debug, PartialEq, Eq)]
@@ -14,6 +16,19 @@ pub enum EventsError {
     NotAnEvent(usize),
     NoMemory,
 }
+
+impl fmt::Display for EventsError {
+    ghost output = { λ error. Some (events_error_text error) };
+
+    fn fmt<W: fmt::Write>(&self, f: &mut fmt::Formatter<W>) -> fmt::Result {
+        match self {
+            Self::NotAnEvent(number) => write!(f, "word {number} is not an event"),
+            Self::NoMemory => f.write_str("out of memory"),
+        }
+    }
+}
+
+impl Error for EventsError {}
 
 impl<T: Drop> From<AllocFailed<T>> for EventsError {
     ghost from_gives = { λ _ r. r ≡ NoMemory };

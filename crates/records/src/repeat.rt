@@ -1,9 +1,11 @@
 // Copies of a piece, one after the other.
-ghost use Rattle.std.specs.Prelude.{◌≡◌};
-ghost use Rattle.records.specs.Copies.{Repeated};
+ghost use Rattle.std.specs.Prelude.{◌≡◌, Some};
+ghost use Rattle.records.specs.Copies.{Repeated, repeat_error_text};
 ghost use Rattle.records.specs.declared.repeat.RepeatError.TheVariants.{NoMemory};
 
 use std::alloc::AllocError;
+use std::error::Error;
+use std::fmt;
 
 // A longer record is not made, so that a number in a script cannot use up the memory. A search
 // refuses much shorter ones.
@@ -15,6 +17,19 @@ pub enum RepeatError {
     TooLong,
     NoMemory,
 }
+
+impl fmt::Display for RepeatError {
+    ghost output = { λ error. Some (repeat_error_text error) };
+
+    fn fmt<W: fmt::Write>(&self, f: &mut fmt::Formatter<W>) -> fmt::Result {
+        f.write_str(match self {
+            Self::TooLong => "the copies have over 16,777,216 symbols",
+            Self::NoMemory => "out of memory",
+        })
+    }
+}
+
+impl Error for RepeatError {}
 
 impl From<AllocError> for RepeatError {
     ghost from_gives = { λ _ r. r ≡ NoMemory };
