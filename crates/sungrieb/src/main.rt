@@ -1,7 +1,7 @@
 // The program: it answers scripts and checks run sheets. A thin layer: `script` understands lines, `reader` reads
 // patterns, and this crate joins the two and prints.
 //
-// A new command gets a case of `script::command::Command`, an arm in `session::Session::answer`, and a line in `help`.
+// A new command gets a case of `script::command::Command`, an arm in `session::Session::obey`, and a line in `help`.
 #![tactic(auto)]
 
 mod check;
