@@ -106,12 +106,20 @@ impl<'a> Job<'a> {
     pub fn work(self, rt: &HostRuntime) -> anyhow::Result<()> {
         match self.symbols {
             Symbols::Bytes => {
-                let pattern = input::pattern::<Bytes, ByteClasses>(rt, self.pattern, Draft::default())?;
+                let pattern = input::pattern::<Bytes, ByteClasses>(
+                    rt,
+                    self.pattern,
+                    Draft::default(),
+                )?;
                 let record = input::bytes(rt, self.record)?;
                 self.search(rt, &pattern, record.as_slice())
             }
             Symbols::Events => {
-                let pattern = input::pattern::<Events, EventCuts>(rt, self.pattern, Draft::default())?;
+                let pattern = input::pattern::<Events, EventCuts>(
+                    rt,
+                    self.pattern,
+                    Draft::default(),
+                )?;
                 let record = input::events(rt, self.record)?;
                 self.search(rt, &pattern, record.as_slice())
             }
