@@ -21,7 +21,7 @@ returns c =
     record {
       room = refl;
       most = refl;
-      sound = λ _. tt;
+      sound = λ h. h;
       map = ap pairs k.kept ∙ pairs_kept (member c.args.places) (take s.len s.steps) s.ok;
       answer = omega (arith, k.few, table_size s.steps s.len (omega arith) s.ok, table_size t n (omega (arith, k.few)) ok);
     }
