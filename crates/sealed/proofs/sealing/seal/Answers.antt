@@ -13,4 +13,4 @@ returns-clause-tests g c =
 pub returns-clause-pattern : goal.returns-clause-pattern
 returns-clause-pattern g c =
     let d = c.args.draft in
-    sealed_of (codes_of d) _ (omega (arith, length-take d.used d.codes, d.count)) (c.of-2.ensures.codes ∙ ap sealable c.codes.ensures)
+    sealed_of (codes_of d) _ (omega (arith, length-take d.used d.codes, d.counts.1)) (c.of-2.ensures.codes ∙ ap sealable c.codes.ensures)
